@@ -1,0 +1,4 @@
+pub mod Lists
+pub mod Stores
+pub mod Words
+pub mod Integers
