@@ -1,0 +1,5 @@
+pub mod Fields
+pub mod Folds
+pub mod Words
+pub mod Rules
+pub mod Copy
