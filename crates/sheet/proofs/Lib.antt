@@ -1,2 +1,4 @@
 pub mod Folding
 pub mod Signs
+pub mod Truth
+pub mod Facts

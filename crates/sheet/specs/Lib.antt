@@ -1,5 +1,3 @@
-pub mod Fields
 pub mod Folds
 pub mod Words
 pub mod Rules
-pub mod Copy

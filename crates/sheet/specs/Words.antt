@@ -1,7 +1,7 @@
 -- The four numbers of a control from their words.
 use Prim.Native.Nat.{ℕ}
 use Rattle.wire.specs.Signed.{signed}
-use Rattle.sheet.specs.declared.Limits.{Limits}
+use Rattle.fields.specs.declared.Limits.{Limits}
 
 -- minimum, maximum, step and default
 abbrev pub limitsOfWords : ℕ → ℕ → ℕ → ℕ → Limits

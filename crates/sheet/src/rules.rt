@@ -1,12 +1,8 @@
 // Whether a slice is a good device sheet, body by body.
 ghost use mathlib.Core.Path.{_≡_};
 ghost use Rattle.wire.specs.Signed.{signed, signedAt};
-ghost use Rattle.sheet.specs.Fields.{cropBounds, cropDefault, limitsOf};
+ghost use Rattle.fields.specs.Fields.{cropBounds, cropDefault, limitsOf};
 ghost use Rattle.sheet.specs.Rules.{contentsOk, identityOk, knownCode, newCode, formatOk, formatsOk, alignmentOk, boundOk, insideOk, boundsOk, defaultOk, aspectOk, geometryOk, limitsOk, controlOk, risingAt, controlsOk, bodiesOk, goodSheet};
-use crate::contents;
-use crate::controls;
-use crate::formats;
-use crate::geometry;
 use crate::grid;
 use crate::text;
 
@@ -14,8 +10,8 @@ use crate::text;
 fn contents_ok(s: &[u8]) -> bool
     ensures { λ r. ⌜ r ≡ contentsOk (now (s .entry)) ⌝ }
 {
-    let f = contents::format_count(s) as u64;
-    let c = contents::control_count(s) as u64;
+    let f = fields::format_count(s) as u64;
+    let c = fields::control_count(s) as u64;
     (wire::word_at(s, 0) == 32)
         & (wire::word_at(s, 4) == 1)
         & (wire::word_at(s, 8) == 116)
@@ -57,11 +53,11 @@ fn known_code(c: u32) -> bool
 fn new_code(s: &[u8], k: u32) -> bool
     ensures { λ r. ⌜ r ≡ newCode (now (s .entry)) k k ⌝ }
 {
-    let c = formats::format_code(s, k);
+    let c = fields::format_code(s, k);
     let mut ok = true;
     let mut j: u32 = 0;
     while j < k {
-        ok = ok & (formats::format_code(s, j) != c);
+        ok = ok & (fields::format_code(s, j) != c);
         j += 1;
     }
     ok
@@ -71,7 +67,7 @@ fn new_code(s: &[u8], k: u32) -> bool
 fn format_ok(s: &[u8], k: u32) -> bool
     ensures { λ r. ⌜ r ≡ formatOk (now (s .entry)) k ⌝ }
 {
-    known_code(formats::format_code(s, k)) & new_code(s, k) & text::has_zero(formats::format_description(s, k))
+    known_code(fields::format_code(s, k)) & new_code(s, k) & text::has_zero(fields::format_description(s, k))
 }
 
 // The first n formats.
@@ -118,7 +114,7 @@ fn inside_ok(start: u32, size: u32, at: u32, long: u32) -> bool
 fn bounds_ok(s: &[u8]) -> bool
     ensures { λ r. ⌜ r ≡ boundsOk (cropBounds (now (s .entry))) ⌝ }
 {
-    let g = contents::geometry_at(s);
+    let g = fields::geometry_at(s);
     bound_ok(wire::word_at(s, g + 28), wire::word_at(s, g + 36)) & bound_ok(wire::word_at(s, g + 32), wire::word_at(s, g + 40))
 }
 
@@ -138,7 +134,7 @@ fn inside_at(s: &[u8], start: usize, size: usize, at: usize, long: usize) -> boo
 fn default_ok(s: &[u8]) -> bool
     ensures { λ r. ⌜ r ≡ defaultOk (cropBounds (now (s .entry))) (cropDefault (now (s .entry))) ⌝ }
 {
-    let g = contents::geometry_at(s);
+    let g = fields::geometry_at(s);
     inside_at(s, g + 28, g + 36, g + 44, g + 52) & inside_at(s, g + 32, g + 40, g + 48, g + 56)
 }
 
@@ -146,7 +142,7 @@ fn default_ok(s: &[u8]) -> bool
 fn aspect_ok(s: &[u8]) -> bool
     ensures { λ r. ⌜ r ≡ aspectOk (now (s .entry)) ⌝ }
 {
-    let a = geometry::pixel_aspect(s);
+    let a = fields::pixel_aspect(s);
     (0 < a.numerator) & (0 < a.denominator)
 }
 
@@ -154,9 +150,9 @@ fn aspect_ok(s: &[u8]) -> bool
 fn geometry_ok(s: &[u8]) -> bool
     ensures { λ r. ⌜ r ≡ geometryOk (now (s .entry)) ⌝ }
 {
-    grid::range_ok(geometry::widths(s))
-        & grid::range_ok(geometry::heights(s))
-        & alignment_ok(geometry::line_alignment(s))
+    grid::range_ok(fields::widths(s))
+        & grid::range_ok(fields::heights(s))
+        & alignment_ok(fields::line_alignment(s))
         & bounds_ok(s)
         & default_ok(s)
         & aspect_ok(s)
@@ -166,7 +162,7 @@ fn geometry_ok(s: &[u8]) -> bool
 fn limits_ok(s: &[u8], k: u32, kind: u32) -> bool
     ensures { λ r. ⌜ r ≡ limitsOk kind (limitsOf (now (s .entry)) k) ⌝ }
 {
-    let at = contents::control_at(s, k);
+    let at = fields::control_at(s, k);
     let lo = wire::word_at(s, at + 40);
     let hi = wire::word_at(s, at + 44);
     let step = wire::word_at(s, at + 48);
@@ -180,9 +176,9 @@ fn limits_ok(s: &[u8], k: u32, kind: u32) -> bool
 fn control_ok(s: &[u8], k: u32) -> bool
     ensures { λ r. ⌜ r ≡ controlOk (now (s .entry)) k ⌝ }
 {
-    let at = contents::control_at(s, k);
+    let at = fields::control_at(s, k);
     let kind = wire::word_at(s, at + 4);
-    (controls::control_id(s, k) < 0x8000_0000)
+    (fields::control_id(s, k) < 0x8000_0000)
         & (1 <= kind)
         & (kind <= 4)
         & text::has_zero(wire::part(s, at + 8, 32))
@@ -199,7 +195,7 @@ fn rising(s: &[u8], k: u32) -> bool
     if k == 0 {
         return true;
     }
-    controls::control_id(s, k - 1) < controls::control_id(s, k)
+    fields::control_id(s, k - 1) < fields::control_id(s, k)
 }
 
 // The first n controls.
@@ -220,9 +216,9 @@ fn bodies_ok(s: &[u8]) -> bool
     ensures { λ r. ⌜ r ≡ bodiesOk (now (s .entry)) ⌝ }
 {
     identity_ok(s)
-        & formats_ok(s, contents::format_count(s))
+        & formats_ok(s, fields::format_count(s))
         & geometry_ok(s)
-        & controls_ok(s, contents::control_count(s))
+        & controls_ok(s, fields::control_count(s))
 }
 
 // Whether the bytes are a good device sheet. The bodies are looked at only where the table of contents is right, so that a

@@ -147,3 +147,19 @@ pub natural-count : (k : ℕ) (x : ℤ) → under x ≤ k → above 0 x ≡ abov
 unfolding above
 natural-count k (pos n) h = omega arith
 natural-count k (negsuc n) h = omega arith
+
+-- a number not below another is that number and the difference
+pub reach : (x y : ℤ) → leZ x y ≡ true → y ≡ x +ℤ pos (above 0 (y -ℤ x))
+unfolding above
+reach (pos a) (pos b) e =
+    let g = gap 0 (pos b) (pos a) (omega arith) (omega arith) in
+    let n : b ≡ a + above 0 (pos b -ℤ pos a) = omega (arith, leb-true a b e) in ap pos n
+reach (pos a) (negsuc b) e = absurd (false≢true e)
+reach (negsuc a) (pos b) e =
+    let g = gap (suc a) (pos b) (negsuc a) (omega arith) (omega arith) in
+    let n : above 0 (pos b -ℤ negsuc a) ≡ suc a + b = omega arith in
+    rw (n, le-ltb (suc a + b) (suc a) (omega arith)) (ap pos (omega arith))
+reach (negsuc a) (negsuc b) e =
+    let g = gap (suc a) (negsuc b) (negsuc a) (omega (arith, leb-true b a e)) (omega arith) in
+    let n : above 0 (negsuc b -ℤ negsuc a) ≡ a - b = omega (arith, leb-true b a e) in
+    rw (n, lt-ltb (a - b) (suc a) (omega arith)) (ap negsuc (omega (arith, leb-true b a e)))

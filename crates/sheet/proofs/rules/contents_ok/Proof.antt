@@ -1,6 +1,6 @@
 -- The words, and the sheet's length. Assumes nothing.
 use Rattle.sheet.specs.Rules.{contentsOk}
-use Rattle.sheet.specs.Fields.{identityAt, identityCount, formatsAt, formatCount, geometryAt, geometryCount, controlsAt, controlCount}
+use Rattle.fields.specs.Fields.{identityAt, identityCount, formatsAt, formatCount, geometryAt, geometryCount, controlsAt, controlCount}
 use borrow.Author.Needs.{needs}
 use Rattle.sheet.proofs.rules.contents_ok.Statement.{statement}
 use Rattle.sheet.proofs.rules.contents_ok.Tie as tie

@@ -1,6 +1,6 @@
 -- The callees' tests, joined as in the definition. Assumes nothing.
 use Rattle.sheet.specs.Rules.{controlOk}
-use Rattle.sheet.specs.Fields.{controlKind, controlName, controlFlags}
+use Rattle.fields.specs.Fields.{controlKind, controlName, controlFlags}
 use borrow.Author.Needs.{needs}
 use Rattle.sheet.proofs.rules.control_ok.Statement.{statement}
 use Rattle.sheet.proofs.rules.control_ok.Tie as tie

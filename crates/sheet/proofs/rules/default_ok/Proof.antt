@@ -1,6 +1,6 @@
 -- The two directions. Assumes nothing.
 use Rattle.sheet.specs.Rules.{defaultOk}
-use Rattle.sheet.specs.Fields.{cropBounds, cropDefault}
+use Rattle.fields.specs.Fields.{cropBounds, cropDefault}
 use borrow.Author.Needs.{needs}
 use Rattle.sheet.proofs.rules.default_ok.Statement.{statement}
 use Rattle.sheet.proofs.rules.default_ok.Tie as tie

@@ -1,6 +1,6 @@
 -- Three parts of the identity. Assumes nothing.
 use Rattle.sheet.specs.Rules.{identityOk}
-use Rattle.sheet.specs.Fields.{driverOf, cardOf, busOf, identityAt}
+use Rattle.fields.specs.Fields.{driverOf, cardOf, busOf, identityAt}
 use borrow.Author.Needs.{needs}
 use Rattle.sheet.proofs.rules.identity_ok.Statement.{statement}
 use Rattle.sheet.proofs.rules.identity_ok.Tie as tie

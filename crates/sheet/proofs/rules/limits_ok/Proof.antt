@@ -1,7 +1,7 @@
 -- The words of the four numbers, and what a boolean and a menu ask of them. Assumes nothing.
 use native.Mathlib.Omega.{arith}
 use Rattle.wire.specs.Signed.{signedAt}
-use Rattle.sheet.specs.Fields.{limitsOf}
+use Rattle.fields.specs.Fields.{limitsOf}
 use Rattle.sheet.specs.Rules.{limitsOk}
 use Rattle.sheet.proofs.Signs.{exact}
 use borrow.Author.Needs.{needs}

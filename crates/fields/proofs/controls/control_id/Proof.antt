@@ -1,0 +1,18 @@
+-- The word at the control's place. Assumes nothing.
+use Rattle.fields.specs.Fields.{controlId}
+use borrow.Author.Needs.{needs}
+use Rattle.fields.proofs.controls.control_id.Statement.{statement}
+use Rattle.fields.proofs.controls.control_id.Tie as tie
+
+control-at-requires : tie.Need-control-at-requires
+control-at-requires c κs = search needs
+
+word-at-requires : tie.Need-word-at-requires
+word-at-requires c κs = search needs
+
+returns : tie.Need-returns
+unfolding controlId
+returns c = cc
+
+pub control-id-spec : {M : Type 1} → statement M
+control-id-spec = tie.close (tie.spec control-at-requires word-at-requires returns)

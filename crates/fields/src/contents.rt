@@ -1,0 +1,47 @@
+// The table of contents at the start of a sheet: four pairs of words, offset and count, and the identity that follows.
+ghost use mathlib.Core.Path.{_≡_};
+ghost use Prim.Native.Nat.{_<_};
+ghost use Rattle.fields.specs.Fields.{identityOf, formatCount, controlCount, formatAt, geometryAt, controlAt};
+
+// How many formats the sheet has.
+pub fn format_count(s: &[u8]) -> u32
+    ensures { λ r. ⌜ r ≡ formatCount (now (s .entry)) ⌝ }
+{
+    wire::word_at(s, 12)
+}
+
+// How many controls the sheet has.
+pub fn control_count(s: &[u8]) -> u32
+    ensures { λ r. ⌜ r ≡ controlCount (now (s .entry)) ⌝ }
+{
+    wire::word_at(s, 28)
+}
+
+// Driver, card, bus and version: the 84 bytes that open the answer to QUERYCAP.
+pub fn identity(s: &[u8]) -> &[u8]
+    ensures { λ r. ⌜ now r ≡ identityOf (now (s .entry)) ⌝ }
+{
+    let at = wire::word_at(s, 0) as usize;
+    wire::part(s, at, 84)
+}
+
+// Where format k starts. The bound lets callers add to it.
+pub fn format_at(s: &[u8], k: u32) -> usize
+    ensures { λ r. ⌜ (r ≡ formatAt (now (s .entry)) k) × (r < 1099511627776) ⌝ }
+{
+    wire::word_at(s, 8) as usize + 36 * (k as usize)
+}
+
+// Where the geometry starts.
+pub fn geometry_at(s: &[u8]) -> usize
+    ensures { λ r. ⌜ (r ≡ geometryAt (now (s .entry))) × (r < 1099511627776) ⌝ }
+{
+    wire::word_at(s, 16) as usize
+}
+
+// Where control k starts.
+pub fn control_at(s: &[u8], k: u32) -> usize
+    ensures { λ r. ⌜ (r ≡ controlAt (now (s .entry)) k) × (r < 1099511627776) ⌝ }
+{
+    wire::word_at(s, 24) as usize + 68 * (k as usize)
+}

@@ -1,0 +1,12 @@
+// The device's own copy of its sheet.
+ghost use mathlib.Core.Path.{_≡_};
+ghost use Rattle.fields.specs.Copy.{keptOf};
+
+// The sheet's bytes, then zeros; bytes past 2,688 are left out, and no good sheet has that many.
+pub fn kept(s: &[u8]) -> [u8; 2688]
+    ensures { λ r. ⌜ r ≡ keptOf (now (s .entry)) ⌝ }
+{
+    let mut b = [0u8; 2688];
+    wire::put_bytes(&mut b, 0, s);
+    b
+}

@@ -1,0 +1,67 @@
+// The fields of a device sheet, each read from its bytes. A reader takes every slice; given the device's own copy it tells
+// what the sheet said at opening.
+mod contents;
+mod formats;
+mod geometry;
+mod controls;
+mod copy;
+
+pub use contents::format_count;
+pub use contents::control_count;
+pub use contents::identity;
+pub use contents::geometry_at;
+pub use contents::control_at;
+pub use formats::format_code;
+pub use formats::format_description;
+pub use geometry::widths;
+pub use geometry::heights;
+pub use geometry::line_alignment;
+pub use geometry::crop_bounds;
+pub use geometry::crop_default;
+pub use geometry::pixel_aspect;
+pub use controls::control_id;
+pub use controls::control_fields;
+pub use controls::control_record;
+pub use copy::kept;
+
+// The allowed widths or heights: from least to greatest by step.
+#[repr(C)]
+pub struct Range {
+    pub least: u32,
+    pub greatest: u32,
+    pub step: u32,
+}
+
+// v4l2_rect.
+#[repr(C)]
+pub struct Rect {
+    pub left: i32,
+    pub top: i32,
+    pub width: i32,
+    pub height: i32,
+}
+
+// v4l2_fract.
+#[repr(C)]
+pub struct Fraction {
+    pub numerator: u32,
+    pub denominator: u32,
+}
+
+// The four numbers of a control: its values go from minimum to maximum by step, and initial is the default.
+#[repr(C)]
+pub struct Limits {
+    pub minimum: i32,
+    pub maximum: i32,
+    pub step: i32,
+    pub initial: i32,
+}
+
+// What v4l2_queryctrl says of a control, its name left out; kind is the type.
+#[repr(C)]
+pub struct Control {
+    pub id: u32,
+    pub kind: u32,
+    pub flags: u32,
+    pub limits: Limits,
+}
