@@ -63,44 +63,41 @@ formatDescription s k = take 32 (drop (formatAt s k + 4) s)
 
 -- ---- geometry, 68 bytes: least, greatest and step of the width, then of the height; line alignment; bounds; default; pixel aspect
 
+-- least, greatest and step at a place
+unfoldable pub rangeAt : List ℕ → ℕ → Range
+rangeAt s at = record { least = wordAt s at; greatest = wordAt s (at + 4); step = wordAt s (at + 8) }
+
 unfoldable pub widthsOf : List ℕ → Range
-widthsOf s =
-    record {
-      least = wordAt s (geometryAt s);
-      greatest = wordAt s (geometryAt s + 4);
-      step = wordAt s (geometryAt s + 8) }
+widthsOf s = rangeAt s (geometryAt s)
 
 unfoldable pub heightsOf : List ℕ → Range
-heightsOf s =
-    record {
-      least = wordAt s (geometryAt s + 12);
-      greatest = wordAt s (geometryAt s + 16);
-      step = wordAt s (geometryAt s + 20) }
+heightsOf s = rangeAt s (geometryAt s + 12)
 
 unfoldable pub lineAlignment : List ℕ → ℕ
 lineAlignment s = wordAt s (geometryAt s + 24)
 
-unfoldable pub cropBounds : List ℕ → Rect
-cropBounds s =
+-- left, top, width and height at a place
+unfoldable pub rectAt : List ℕ → ℕ → Rect
+rectAt s at =
     record {
-      left = signedAt s (geometryAt s + 28);
-      top = signedAt s (geometryAt s + 32);
-      width = signedAt s (geometryAt s + 36);
-      height = signedAt s (geometryAt s + 40) }
+      left = signedAt s at;
+      top = signedAt s (at + 4);
+      width = signedAt s (at + 8);
+      height = signedAt s (at + 12);
+    }
+
+unfoldable pub cropBounds : List ℕ → Rect
+cropBounds s = rectAt s (geometryAt s + 28)
 
 unfoldable pub cropDefault : List ℕ → Rect
-cropDefault s =
-    record {
-      left = signedAt s (geometryAt s + 44);
-      top = signedAt s (geometryAt s + 48);
-      width = signedAt s (geometryAt s + 52);
-      height = signedAt s (geometryAt s + 56) }
+cropDefault s = rectAt s (geometryAt s + 44)
 
 unfoldable pub pixelAspect : List ℕ → Fraction
 pixelAspect s =
     record {
       numerator = wordAt s (geometryAt s + 60);
-      denominator = wordAt s (geometryAt s + 64) }
+      denominator = wordAt s (geometryAt s + 64);
+    }
 
 -- ---- control k, 68 bytes: id, type, name, minimum, maximum, step, default, flags, two reserved words
 
@@ -122,7 +119,8 @@ limitsOf s k =
       minimum = signedAt s (controlAt s k + 40);
       maximum = signedAt s (controlAt s k + 44);
       step = signedAt s (controlAt s k + 48);
-      initial = signedAt s (controlAt s k + 52) }
+      initial = signedAt s (controlAt s k + 52);
+    }
 
 unfoldable pub controlFlags : List ℕ → ℕ → ℕ
 controlFlags s k = wordAt s (controlAt s k + 56)
@@ -133,7 +131,8 @@ controlFields s k =
       id = controlId s k;
       kind = controlKind s k;
       flags = controlFlags s k;
-      limits = limitsOf s k }
+      limits = limitsOf s k;
+    }
 
 unfoldable pub controlRecord : List ℕ → ℕ → List ℕ
 controlRecord s k = take 68 (drop (controlAt s k) s)

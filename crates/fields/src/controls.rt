@@ -1,7 +1,8 @@
 // The controls of a sheet: 68 bytes each, as v4l2_queryctrl.
 ghost use mathlib.Core.Path.{_≡_};
 ghost use Rattle.fields.specs.Fields.{controlId, limitsOf, controlFields, controlRecord};
-use crate::{Control, Limits};
+use crate::Control;
+use crate::Limits;
 
 // The id of control k.
 pub fn control_id(s: &[u8], k: u32) -> u32

@@ -1,13 +1,16 @@
 // The geometry of a sheet: sizes, line alignment, crop bounds and default, pixel aspect.
 ghost use mathlib.Core.Path.{_≡_};
-ghost use Rattle.fields.specs.Fields.{widthsOf, heightsOf, lineAlignment, cropBounds, cropDefault, pixelAspect};
-use crate::{Fraction, Range, Rect};
+ghost use Prim.Native.Nat.{_<_};
+ghost use Rattle.fields.specs.Fields.{rangeAt, widthsOf, heightsOf, lineAlignment, rectAt, cropBounds, cropDefault, pixelAspect};
+use crate::Fraction;
+use crate::Range;
+use crate::Rect;
 
-// The allowed widths.
-pub fn widths(s: &[u8]) -> Range
-    ensures { λ r. ⌜ r ≡ widthsOf (now (s .entry)) ⌝ }
+// Least, greatest and step at a place.
+fn range_at(s: &[u8], at: usize) -> Range
+    requires { ⌜ at < 2199023255552 ⌝ }
+    ensures { λ r. ⌜ r ≡ rangeAt (now (s .entry)) at ⌝ }
 {
-    let at = crate::contents::geometry_at(s);
     Range {
         least: wire::word_at(s, at),
         greatest: wire::word_at(s, at + 4),
@@ -15,16 +18,31 @@ pub fn widths(s: &[u8]) -> Range
     }
 }
 
+// Left, top, width and height at a place.
+fn rect_at(s: &[u8], at: usize) -> Rect
+    requires { ⌜ at < 2199023255552 ⌝ }
+    ensures { λ r. ⌜ r ≡ rectAt (now (s .entry)) at ⌝ }
+{
+    Rect {
+        left: wire::signed_at(s, at),
+        top: wire::signed_at(s, at + 4),
+        width: wire::signed_at(s, at + 8),
+        height: wire::signed_at(s, at + 12),
+    }
+}
+
+// The allowed widths.
+pub fn widths(s: &[u8]) -> Range
+    ensures { λ r. ⌜ r ≡ widthsOf (now (s .entry)) ⌝ }
+{
+    range_at(s, crate::contents::geometry_at(s))
+}
+
 // The allowed heights.
 pub fn heights(s: &[u8]) -> Range
     ensures { λ r. ⌜ r ≡ heightsOf (now (s .entry)) ⌝ }
 {
-    let at = crate::contents::geometry_at(s);
-    Range {
-        least: wire::word_at(s, at + 12),
-        greatest: wire::word_at(s, at + 16),
-        step: wire::word_at(s, at + 20),
-    }
+    range_at(s, crate::contents::geometry_at(s) + 12)
 }
 
 // What the bytes of a line are rounded up to.
@@ -39,26 +57,14 @@ pub fn line_alignment(s: &[u8]) -> u32
 pub fn crop_bounds(s: &[u8]) -> Rect
     ensures { λ r. ⌜ r ≡ cropBounds (now (s .entry)) ⌝ }
 {
-    let at = crate::contents::geometry_at(s);
-    Rect {
-        left: wire::signed_at(s, at + 28),
-        top: wire::signed_at(s, at + 32),
-        width: wire::signed_at(s, at + 36),
-        height: wire::signed_at(s, at + 40),
-    }
+    rect_at(s, crate::contents::geometry_at(s) + 28)
 }
 
 // The crop at opening.
 pub fn crop_default(s: &[u8]) -> Rect
     ensures { λ r. ⌜ r ≡ cropDefault (now (s .entry)) ⌝ }
 {
-    let at = crate::contents::geometry_at(s);
-    Rect {
-        left: wire::signed_at(s, at + 44),
-        top: wire::signed_at(s, at + 48),
-        width: wire::signed_at(s, at + 52),
-        height: wire::signed_at(s, at + 56),
-    }
+    rect_at(s, crate::contents::geometry_at(s) + 44)
 }
 
 // A pixel's height over its width.

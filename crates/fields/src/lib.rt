@@ -1,28 +1,28 @@
 // The fields of a device sheet, each read from its bytes. A reader takes every slice; given the device's own copy it tells
 // what the sheet said at opening.
 mod contents;
-mod formats;
-mod geometry;
 mod controls;
 mod copy;
+mod formats;
+mod geometry;
 
-pub use contents::format_count;
-pub use contents::control_count;
-pub use contents::identity;
-pub use contents::geometry_at;
 pub use contents::control_at;
-pub use formats::format_code;
-pub use formats::format_description;
-pub use geometry::widths;
-pub use geometry::heights;
-pub use geometry::line_alignment;
-pub use geometry::crop_bounds;
-pub use geometry::crop_default;
-pub use geometry::pixel_aspect;
-pub use controls::control_id;
+pub use contents::control_count;
+pub use contents::format_count;
+pub use contents::geometry_at;
+pub use contents::identity;
 pub use controls::control_fields;
+pub use controls::control_id;
 pub use controls::control_record;
 pub use copy::kept;
+pub use formats::format_code;
+pub use formats::format_description;
+pub use geometry::crop_bounds;
+pub use geometry::crop_default;
+pub use geometry::heights;
+pub use geometry::line_alignment;
+pub use geometry::pixel_aspect;
+pub use geometry::widths;
 
 // The allowed widths or heights: from least to greatest by step.
 #[repr(C)]

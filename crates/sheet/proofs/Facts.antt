@@ -58,7 +58,8 @@ contents-of s e =
       geometry-one = eqb-true (geometryCount s) 1 (t6 .1);
       controls-at = eqb-true (controlsAt s) (184 + 36 * formatCount s) (t7 .1);
       controls-most = leb-true (controlCount s) 32 (t8 .1);
-      long = eqb-true (length s) (184 + 36 * formatCount s + 68 * controlCount s) (t9 .1) }
+      long = eqb-true (length s) (184 + 36 * formatCount s + 68 * controlCount s) (t9 .1);
+    }
 
 -- ---- numbers from a least one by a step
 
@@ -91,7 +92,8 @@ sizes-of r e =
       even-step = eqb-true (r .step % 2) 0 (t4 .1);
       stride = leb-true 2 (r .step) (t5 .1);
       steps = (r .greatest - r .least) / r .step;
-      whole = omega (arith, div-add-mod' (r .greatest - r .least) (r .step), eqb-true ((r .greatest - r .least) % r .step) 0 (t6 .1)) }
+      whole = omega (arith, div-add-mod' (r .greatest - r .least) (r .step), eqb-true ((r .greatest - r .least) % r .step) 0 (t6 .1));
+    }
 
 -- an alignment is 2 to 64 and divides 64
 pub record Alignment (a : ℕ) : Type 0 where
@@ -197,7 +199,8 @@ grid-of l e =
       from = mid .0;
       to = t3 .1;
       place = mid .1 .0;
-      placed = mid .1 .1 }
+      placed = mid .1 .1;
+    }
 
 exactly-is : (n : ℕ) (z : ℤ) → exactly n z ≡ true → z ≡ pos n
 unfolding exactly

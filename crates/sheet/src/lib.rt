@@ -1,6 +1,6 @@
 // Which bytes are a good device sheet.
-mod text;
 mod grid;
 mod rules;
+mod text;
 
 pub use rules::good_sheet;

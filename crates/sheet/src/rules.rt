@@ -67,7 +67,9 @@ fn new_code(s: &[u8], k: u32) -> bool
 fn format_ok(s: &[u8], k: u32) -> bool
     ensures { λ r. ⌜ r ≡ formatOk (now (s .entry)) k ⌝ }
 {
-    known_code(fields::format_code(s, k)) & new_code(s, k) & text::has_zero(fields::format_description(s, k))
+    known_code(fields::format_code(s, k))
+        & new_code(s, k)
+        & text::has_zero(fields::format_description(s, k))
 }
 
 // The first n formats.
@@ -114,8 +116,9 @@ fn inside_ok(start: u32, size: u32, at: u32, long: u32) -> bool
 fn bounds_ok(s: &[u8]) -> bool
     ensures { λ r. ⌜ r ≡ boundsOk (cropBounds (now (s .entry))) ⌝ }
 {
-    let g = fields::geometry_at(s);
-    bound_ok(wire::word_at(s, g + 28), wire::word_at(s, g + 36)) & bound_ok(wire::word_at(s, g + 32), wire::word_at(s, g + 40))
+    let b = fields::geometry_at(s) + 28;
+    bound_ok(wire::word_at(s, b), wire::word_at(s, b + 8))
+        & bound_ok(wire::word_at(s, b + 4), wire::word_at(s, b + 12))
 }
 
 // One direction of the default, from the places of its numbers.
@@ -135,7 +138,9 @@ fn default_ok(s: &[u8]) -> bool
     ensures { λ r. ⌜ r ≡ defaultOk (cropBounds (now (s .entry))) (cropDefault (now (s .entry))) ⌝ }
 {
     let g = fields::geometry_at(s);
-    inside_at(s, g + 28, g + 36, g + 44, g + 52) & inside_at(s, g + 32, g + 40, g + 48, g + 56)
+    let b = g + 28;
+    let d = g + 44;
+    inside_at(s, b, b + 8, d, d + 8) & inside_at(s, b + 4, b + 12, d + 4, d + 12)
 }
 
 // The pixel aspect.
@@ -226,9 +231,5 @@ fn bodies_ok(s: &[u8]) -> bool
 pub fn good_sheet(s: &[u8]) -> bool
     ensures { λ r. ⌜ r ≡ goodSheet (now (s .entry)) ⌝ }
 {
-    if contents_ok(s) {
-        bodies_ok(s)
-    } else {
-        false
-    }
+    if contents_ok(s) { bodies_ok(s) } else { false }
 }

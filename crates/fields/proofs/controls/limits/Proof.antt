@@ -34,7 +34,7 @@ signed-at-requires-4 c κs = search needs
 
 returns : tie.Need-returns
 unfolding limitsOf
-returns c = 
+returns c =
     let l = c .before .before .before .signed-at in
     let t = c .before .before .signed-at2 in
     let w = c .before .signed-at3 in

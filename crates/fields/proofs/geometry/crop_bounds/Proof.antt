@@ -1,5 +1,4 @@
--- Four words as signed numbers. Assumes nothing.
-use Rattle.wire.proofs.Integers.{again}
+-- The rectangle at its place. Assumes nothing.
 use Rattle.fields.specs.Fields.{cropBounds}
 use borrow.Author.Needs.{needs}
 use Rattle.fields.proofs.geometry.crop_bounds.Statement.{statement}
@@ -8,50 +7,15 @@ use Rattle.fields.proofs.geometry.crop_bounds.Tie as tie
 geometry-at-requires : tie.Need-geometry-at-requires
 geometry-at-requires c κs = search needs
 
-add-signed-at : tie.Need-add-signed-at
-add-signed-at c = search needs
+add-rect-at : tie.Need-add-rect-at
+add-rect-at c = search needs
 
-signed-at-requires : tie.Need-signed-at-requires
-signed-at-requires c κs = search needs
-
-add-signed-at-2 : tie.Need-add-signed-at-2
-add-signed-at-2 c = search needs
-
-signed-at-requires-2 : tie.Need-signed-at-requires-2
-signed-at-requires-2 c κs = search needs
-
-add-signed-at-3 : tie.Need-add-signed-at-3
-add-signed-at-3 c = search needs
-
-signed-at-requires-3 : tie.Need-signed-at-requires-3
-signed-at-requires-3 c κs = search needs
-
-add-signed-at-4 : tie.Need-add-signed-at-4
-add-signed-at-4 c = search needs
-
-signed-at-requires-4 : tie.Need-signed-at-requires-4
-signed-at-requires-4 c κs = search needs
+rect-at-requires : tie.Need-rect-at-requires
+rect-at-requires c κs = search needs
 
 returns : tie.Need-returns
 unfolding cropBounds
-returns c = 
-    let l = c .before .before .before .signed-at in
-    let t = c .before .before .signed-at2 in
-    let w = c .before .signed-at3 in
-    let h = c .signed-at4 in
-    cc (again (l .result) (l .ok), again (t .result) (t .ok), again (w .result) (w .ok), again (h .result) (h .ok))
+returns c = cc
 
 pub crop-bounds-spec : {M : Type 1} → statement M
-crop-bounds-spec =
-    tie.close
-    (tie.spec
-    geometry-at-requires
-    add-signed-at
-    signed-at-requires
-    add-signed-at-2
-    signed-at-requires-2
-    add-signed-at-3
-    signed-at-requires-3
-    add-signed-at-4
-    signed-at-requires-4
-    returns)
+crop-bounds-spec = tie.close (tie.spec geometry-at-requires add-rect-at rect-at-requires returns)

@@ -1,4 +1,4 @@
--- Three words. Assumes nothing.
+-- The range at its place. Assumes nothing.
 use Rattle.fields.specs.Fields.{heightsOf}
 use borrow.Author.Needs.{needs}
 use Rattle.fields.proofs.geometry.heights.Statement.{statement}
@@ -7,37 +7,15 @@ use Rattle.fields.proofs.geometry.heights.Tie as tie
 geometry-at-requires : tie.Need-geometry-at-requires
 geometry-at-requires c κs = search needs
 
-add-word-at : tie.Need-add-word-at
-add-word-at c = search needs
+add-range-at : tie.Need-add-range-at
+add-range-at c = search needs
 
-word-at-requires : tie.Need-word-at-requires
-word-at-requires c κs = search needs
-
-add-word-at-2 : tie.Need-add-word-at-2
-add-word-at-2 c = search needs
-
-word-at-requires-2 : tie.Need-word-at-requires-2
-word-at-requires-2 c κs = search needs
-
-add-word-at-3 : tie.Need-add-word-at-3
-add-word-at-3 c = search needs
-
-word-at-requires-3 : tie.Need-word-at-requires-3
-word-at-requires-3 c κs = search needs
+range-at-requires : tie.Need-range-at-requires
+range-at-requires c κs = search needs
 
 returns : tie.Need-returns
 unfolding heightsOf
 returns c = cc
 
 pub heights-spec : {M : Type 1} → statement M
-heights-spec =
-    tie.close
-    (tie.spec
-    geometry-at-requires
-    add-word-at
-    word-at-requires
-    add-word-at-2
-    word-at-requires-2
-    add-word-at-3
-    word-at-requires-3
-    returns)
+heights-spec = tie.close (tie.spec geometry-at-requires add-range-at range-at-requires returns)

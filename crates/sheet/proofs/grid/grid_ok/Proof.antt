@@ -22,7 +22,7 @@ biased-requires-3 c κs = search needs
 
 returns : tie.Need-returns
 unfolding gridOk
-returns c = 
+returns c =
     let s = c .before .before .before .before .before in
     cc (at-least 1 (s .args .step) (s .fits .step .fits), le-words (s .args .initial) (s .args .maximum) (s .fits .initial .fits) (s .fits .maximum .fits))
 

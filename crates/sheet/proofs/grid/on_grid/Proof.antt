@@ -27,15 +27,18 @@ multiple-of-requires c κs = search needs
 
 returns : tie.Need-returns
 unfolding onGrid
-returns c = 
+returns c =
     let s = c .before .before .before .before .before .before in
     let l = s .args .least in
     let v = s .args .value in
     let p = s .args .step in
     let ul = word-under l (s .fits .least .fits) in
     let uv = word-under v (s .fits .value .fits) in
-    cc (le-words l v (s .fits .least .fits) (s .fits .value .fits), gap 2147483648 (signed v) (signed l) uv ul,
-        natural-count 2147483648 (signed p) (word-under p (s .fits .step .fits)))
+    cc (
+      le-words l v (s .fits .least .fits) (s .fits .value .fits),
+      gap 2147483648 (signed v) (signed l) uv ul,
+      natural-count 2147483648 (signed p) (word-under p (s .fits .step .fits)),
+    )
 
 pub on-grid-spec : {M : Type 1} → statement M
 on-grid-spec =

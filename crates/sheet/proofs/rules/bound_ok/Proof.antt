@@ -14,12 +14,16 @@ biased-requires-2 c κs = search needs
 
 returns : tie.Need-returns
 unfolding boundOk
-returns c = 
+returns c =
     let s = c .before .before in
     let a = s .args .start in
     let n = s .args .size in
-    cc (from-below 32767 a (omega arith) (s .fits .start .fits), at-most 32767 a (s .fits .start .fits),
-        at-least 1 n (s .fits .size .fits), at-most 8192 n (s .fits .size .fits))
+    cc (
+      from-below 32767 a (omega arith) (s .fits .start .fits),
+      at-most 32767 a (s .fits .start .fits),
+      at-least 1 n (s .fits .size .fits),
+      at-most 8192 n (s .fits .size .fits),
+    )
 
 pub bound-ok-spec : {M : Type 1} → statement M
 bound-ok-spec = tie.close (tie.spec biased-requires biased-requires-2 returns)

@@ -39,7 +39,7 @@ add-result-2 c = search needs
 
 returns : tie.Need-returns
 unfolding insideOk
-returns c = 
+returns c =
     let s = c .before .before .before .before in
     let l = s .args .start in
     let z = s .args .size in
@@ -49,8 +49,11 @@ returns c =
     let fz = s .fits .size .fits in
     let fa = s .fits .at .fits in
     let fn = s .fits .long .fits in
-    cc (le-words l a fl fa, at-least 1 n fn,
-        sums-order 2147483648 (signed a) (signed n) (signed l) (signed z) (word-under a fa) (word-under n fn) (word-under l fl) (word-under z fz))
+    cc (
+      le-words l a fl fa,
+      at-least 1 n fn,
+      sums-order 2147483648 (signed a) (signed n) (signed l) (signed z) (word-under a fa) (word-under n fn) (word-under l fl) (word-under z fz),
+    )
 
 pub inside-ok-spec : {M : Type 1} → statement M
 inside-ok-spec =

@@ -40,7 +40,7 @@ grid-ok-requires c κs = search needs
 
 returns : tie.Need-returns
 unfolding limitsOk limitsOf signedAt
-returns c = 
+returns c =
     let lo = c .before .before .before .before .word-at in
     let hi = c .before .before .before .word-at2 in
     let by = c .before .before .word-at3 in
