@@ -8,15 +8,14 @@ use crate::Limits;
 pub fn control_id(s: &[u8], k: u32) -> u32
     ensures { λ r. ⌜ r ≡ controlId (now (s .entry)) k ⌝ }
 {
-    let at = crate::contents::control_at(s, k);
-    wire::word_at(s, at)
+    wire::word_at(s, contents::control_at(s, k))
 }
 
 // The four numbers of control k.
 fn limits(s: &[u8], k: u32) -> Limits
     ensures { λ r. ⌜ r ≡ limitsOf (now (s .entry)) k ⌝ }
 {
-    let at = crate::contents::control_at(s, k);
+    let at = contents::control_at(s, k);
     Limits {
         minimum: wire::signed_at(s, at + 40),
         maximum: wire::signed_at(s, at + 44),
@@ -29,7 +28,7 @@ fn limits(s: &[u8], k: u32) -> Limits
 pub fn control_fields(s: &[u8], k: u32) -> Control
     ensures { λ r. ⌜ r ≡ controlFields (now (s .entry)) k ⌝ }
 {
-    let at = crate::contents::control_at(s, k);
+    let at = contents::control_at(s, k);
     Control {
         id: wire::word_at(s, at),
         kind: wire::word_at(s, at + 4),
@@ -42,6 +41,5 @@ pub fn control_fields(s: &[u8], k: u32) -> Control
 pub fn control_record(s: &[u8], k: u32) -> &[u8]
     ensures { λ r. ⌜ now r ≡ controlRecord (now (s .entry)) k ⌝ }
 {
-    let at = crate::contents::control_at(s, k);
-    wire::part(s, at, 68)
+    wire::part(s, contents::control_at(s, k), 68)
 }

@@ -35,21 +35,21 @@ fn rect_at(s: &[u8], at: usize) -> Rect
 pub fn widths(s: &[u8]) -> Range
     ensures { λ r. ⌜ r ≡ widthsOf (now (s .entry)) ⌝ }
 {
-    range_at(s, crate::contents::geometry_at(s))
+    range_at(s, contents::geometry_at(s))
 }
 
 // The allowed heights.
 pub fn heights(s: &[u8]) -> Range
     ensures { λ r. ⌜ r ≡ heightsOf (now (s .entry)) ⌝ }
 {
-    range_at(s, crate::contents::geometry_at(s) + 12)
+    range_at(s, contents::geometry_at(s) + 12)
 }
 
 // What the bytes of a line are rounded up to.
 pub fn line_alignment(s: &[u8]) -> u32
     ensures { λ r. ⌜ r ≡ lineAlignment (now (s .entry)) ⌝ }
 {
-    let at = crate::contents::geometry_at(s);
+    let at = contents::geometry_at(s);
     wire::word_at(s, at + 24)
 }
 
@@ -57,21 +57,21 @@ pub fn line_alignment(s: &[u8]) -> u32
 pub fn crop_bounds(s: &[u8]) -> Rect
     ensures { λ r. ⌜ r ≡ cropBounds (now (s .entry)) ⌝ }
 {
-    rect_at(s, crate::contents::geometry_at(s) + 28)
+    rect_at(s, contents::geometry_at(s) + 28)
 }
 
 // The crop at opening.
 pub fn crop_default(s: &[u8]) -> Rect
     ensures { λ r. ⌜ r ≡ cropDefault (now (s .entry)) ⌝ }
 {
-    rect_at(s, crate::contents::geometry_at(s) + 44)
+    rect_at(s, contents::geometry_at(s) + 44)
 }
 
 // A pixel's height over its width.
 pub fn pixel_aspect(s: &[u8]) -> Fraction
     ensures { λ r. ⌜ r ≡ pixelAspect (now (s .entry)) ⌝ }
 {
-    let at = crate::contents::geometry_at(s);
+    let at = contents::geometry_at(s);
     Fraction {
         numerator: wire::word_at(s, at + 60),
         denominator: wire::word_at(s, at + 64),

@@ -36,7 +36,7 @@ pub record Contents (s : List ℕ) : Type 0 where
   pub controls-most : controlCount s ≤ 32
   pub long : length s ≡ 184 + 36 * formatCount s + 68 * controlCount s
 
-contents-of : (s : List ℕ) → contentsOk s ≡ true → Contents s
+pub contents-of : (s : List ℕ) → contentsOk s ≡ true → Contents s
 unfolding contentsOk
 contents-of s e =
     let t9 = both _ _ e in
@@ -212,3 +212,40 @@ pub record Numbers (kind : ℕ) (l : Limits) : Type 0 where
   pub grid : (kind ≡ 4 → ⊥) → Grid l
   pub boolean : kind ≡ 2 → (l .minimum ≡ pos 0) × (l .maximum ≡ pos 1) × (l .step ≡ pos 1)
   pub menu : kind ≡ 3 → (l .minimum ≡ pos 0) × (l .step ≡ pos 1)
+
+-- one of two tests passed, and the first did not
+second : (a b : Bool) → (a || b) ≡ true → a ≡ false → b ≡ true
+second true b e f = absurd (false≢true (sym f))
+second false b e f = e
+
+-- a rule for one kind only, at that kind
+for-kind : (kind n : ℕ) (b : Bool) → (not (eqb kind n) || b) ≡ true → kind ≡ n → b ≡ true
+for-kind kind n b e q = rw (eq-eqb kind n q) at e
+
+pub numbers-of : (kind : ℕ) (l : Limits) → limitsOk kind l ≡ true → Numbers kind l
+unfolding limitsOk
+numbers-of kind l e =
+    record {
+      grid = λ n. grid-of l (parts (ne-eqb kind 4 n) .0);
+      boolean = λ q.
+          let t = for-kind kind 2 _ (parts (ne-eqb kind 4 (λ f. omega arith)) .1) q in
+          let u = both (exactly 0 (l .minimum) && exactly 1 (l .maximum)) (exactly 1 (l .step)) t in
+          let v = both (exactly 0 (l .minimum)) (exactly 1 (l .maximum)) (u .0) in
+          (exactly-is 0 (l .minimum) (v .0), exactly-is 1 (l .maximum) (v .1), exactly-is 1 (l .step) (u .1));
+      menu = λ q.
+          let t = for-kind kind 3 _ (parts (ne-eqb kind 4 (λ f. omega arith)) .2) q in
+          let u = both (exactly 0 (l .minimum)) (exactly 1 (l .step)) t in
+          (exactly-is 0 (l .minimum) (u .0), exactly-is 1 (l .step) (u .1));
+    }
+  where
+    asBoolean : Bool
+    asBoolean = not (eqb kind 2) || (exactly 0 (l .minimum) && exactly 1 (l .maximum) && exactly 1 (l .step))
+
+    asMenu : Bool
+    asMenu = not (eqb kind 3) || (exactly 0 (l .minimum) && exactly 1 (l .step))
+
+    parts : eqb kind 4 ≡ false → (gridOk l ≡ true) × (asBoolean ≡ true) × (asMenu ≡ true)
+    parts f =
+        let t = both (gridOk l && asBoolean) asMenu (second (eqb kind 4) (gridOk l && asBoolean && asMenu) e f) in
+        let u = both (gridOk l) asBoolean (t .0) in
+        (u .0, u .1, t .1)

@@ -2,3 +2,4 @@ pub mod Folding
 pub mod Signs
 pub mod Truth
 pub mod Facts
+pub mod Good

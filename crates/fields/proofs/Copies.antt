@@ -1,0 +1,152 @@
+-- The device's copy of a sheet has the sheet's fields: behind the sheet stand zeros, and past a sheet's end there is 0 too.
+-- Assumes nothing.
+use Prim.Native.Nat.{ℕ, _+_, _-_, _*_, _≤_, _<_}
+use mathlib.Core.Path.{_≡_, refl, sym, _∙_}
+use mathlib.Core.Bool.{Bool, true, false}
+use mathlib.Core.List.{List, _++_}
+use native.Mathlib.Nat.{zero-add}
+use native.Mathlib.Omega.{arith}
+use borrow.Author.Tests.{ltb-true, ltb-false}
+use lib.Dec.{ltb}
+use lib.ListN.{length, getD, take, drop, replicate, length-replicate, length-drop, getD-replicate}
+use lib.Seq.{sets, take-append-le, drop-append-le}
+use Rattle.wire.specs.Words.{wordAt}
+use Rattle.wire.specs.Signed.{signedAt}
+use Rattle.wire.proofs.Lists.{past-end}
+use Rattle.wire.proofs.Stores.{sets-at, sets-behind, over-zeros}
+use Rattle.wire.proofs.Words.{word-same}
+use Rattle.fields.specs.Copy.{keptOf}
+use Rattle.fields.specs.Fields.{identityAt, identityOf, formatsAt, formatCount, geometryAt, controlsAt, controlCount, formatAt, formatCode, formatDescription, rangeAt, widthsOf, heightsOf, lineAlignment, rectAt, cropBounds, cropDefault, pixelAspect, controlAt, controlId, controlKind, limitsOf, controlFlags, controlFields, controlRecord}
+
+-- a zero, wherever it is asked for
+zeros : (n j : ℕ) → getD {A = ℕ} (replicate n 0) j 0 ≡ 0
+zeros n j = by (ltb j n) refl
+  where
+    by : (b : Bool) → ltb j n ≡ b → getD {A = ℕ} (replicate n 0) j 0 ≡ 0
+    by true l = getD-replicate n j 0 0 (ltb-true j n l)
+    by false l = past-end (replicate n 0) j (simp length-replicate (ltb-false j n l))
+
+module _ (s : List ℕ) (fits : length s ≤ 2688) where
+  kept-byte : (j : ℕ) → getD (keptOf s) j 0 ≡ getD s j 0
+  unfolding keptOf
+  kept-byte j = by (ltb j (length s)) refl
+    where
+      by : (b : Bool) → ltb j (length s) ≡ b → getD (sets (replicate 2688 0) 0 s) j 0 ≡ getD s j 0
+      by true l =
+          let h = ltb-true j (length s) l in
+          let q = sets-at s (replicate 2688 0) 0 j 0 h (simp length-replicate (omega arith)) in
+          rw (zero-add j) at q
+      by false l =
+          let h = ltb-false j (length s) l in
+          sets-behind s (replicate 2688 0) 0 j 0 (omega arith) ∙ zeros 2688 j ∙ sym (past-end s j h)
+
+  -- every word of the copy is the sheet's, and so is every number in it
+  pub kept-word : (at : ℕ) → wordAt (keptOf s) at ≡ wordAt s at
+  kept-word at = word-same (keptOf s) s at at (λ k h. kept-byte (at + k))
+
+  pub kept-signed : (at : ℕ) → signedAt (keptOf s) at ≡ signedAt s at
+  unfolding signedAt
+  kept-signed at = rw (kept-word at)
+
+  -- a part within the sheet is the sheet's
+  pub kept-part : (at n : ℕ) → at + n ≤ length s → take n (drop at (keptOf s)) ≡ take n (drop at s)
+  unfolding keptOf
+  kept-part at n h =
+      rw (
+        over-zeros s 2688 (2688 - length s) (omega arith),
+        drop-append-le at s (replicate (2688 - length s) 0) (omega arith),
+        take-append-le n (drop at s) (replicate (2688 - length s) 0) (simp length-drop (omega arith)),
+      )
+
+  pub kept-format-count : formatCount (keptOf s) ≡ formatCount s
+  unfolding formatCount
+  kept-format-count = kept-word 12
+
+  pub kept-control-count : controlCount (keptOf s) ≡ controlCount s
+  unfolding controlCount
+  kept-control-count = kept-word 28
+
+  -- the places of the bodies
+  kept-identity-at : identityAt (keptOf s) ≡ identityAt s
+  unfolding identityAt
+  kept-identity-at = kept-word 0
+
+  kept-format-at : (k : ℕ) → formatAt (keptOf s) k ≡ formatAt s k
+  unfolding formatAt formatsAt
+  kept-format-at k = rw (kept-word 8)
+
+  kept-geometry-at : geometryAt (keptOf s) ≡ geometryAt s
+  unfolding geometryAt
+  kept-geometry-at = kept-word 16
+
+  kept-control-at : (k : ℕ) → controlAt (keptOf s) k ≡ controlAt s k
+  unfolding controlAt controlsAt
+  kept-control-at k = rw (kept-word 24)
+
+  pub kept-code : (k : ℕ) → formatCode (keptOf s) k ≡ formatCode s k
+  unfolding formatCode
+  kept-code k = rw (kept-format-at k) (kept-word (formatAt s k))
+
+  pub kept-description : (k : ℕ) → formatAt s k + 36 ≤ length s → formatDescription (keptOf s) k ≡ formatDescription s k
+  unfolding formatDescription
+  kept-description k h = rw (kept-format-at k) (kept-part (formatAt s k + 4) 32 (omega arith))
+
+  pub kept-identity : identityAt s + 84 ≤ length s → identityOf (keptOf s) ≡ identityOf s
+  unfolding identityOf
+  kept-identity h = rw kept-identity-at (kept-part (identityAt s) 84 h)
+
+  kept-range : (at : ℕ) → rangeAt (keptOf s) at ≡ rangeAt s at
+  unfolding rangeAt
+  kept-range at = rw (kept-word at, kept-word (at + 4), kept-word (at + 8))
+
+  kept-rect : (at : ℕ) → rectAt (keptOf s) at ≡ rectAt s at
+  unfolding rectAt
+  kept-rect at = rw (kept-signed at, kept-signed (at + 4), kept-signed (at + 8), kept-signed (at + 12))
+
+  pub kept-widths : widthsOf (keptOf s) ≡ widthsOf s
+  unfolding widthsOf
+  kept-widths = rw kept-geometry-at (kept-range (geometryAt s))
+
+  pub kept-heights : heightsOf (keptOf s) ≡ heightsOf s
+  unfolding heightsOf
+  kept-heights = rw kept-geometry-at (kept-range (geometryAt s + 12))
+
+  pub kept-alignment : lineAlignment (keptOf s) ≡ lineAlignment s
+  unfolding lineAlignment
+  kept-alignment = rw kept-geometry-at (kept-word (geometryAt s + 24))
+
+  pub kept-bounds : cropBounds (keptOf s) ≡ cropBounds s
+  unfolding cropBounds
+  kept-bounds = rw kept-geometry-at (kept-rect (geometryAt s + 28))
+
+  pub kept-default : cropDefault (keptOf s) ≡ cropDefault s
+  unfolding cropDefault
+  kept-default = rw kept-geometry-at (kept-rect (geometryAt s + 44))
+
+  pub kept-aspect : pixelAspect (keptOf s) ≡ pixelAspect s
+  unfolding pixelAspect
+  kept-aspect = rw (kept-geometry-at, kept-word (geometryAt s + 60), kept-word (geometryAt s + 64))
+
+  pub kept-id : (k : ℕ) → controlId (keptOf s) k ≡ controlId s k
+  unfolding controlId
+  kept-id k = rw (kept-control-at k) (kept-word (controlAt s k))
+
+  pub kept-limits : (k : ℕ) → limitsOf (keptOf s) k ≡ limitsOf s k
+  unfolding limitsOf
+  kept-limits k =
+      rw (
+        kept-control-at k,
+        kept-signed (controlAt s k + 40),
+        kept-signed (controlAt s k + 44),
+        kept-signed (controlAt s k + 48),
+        kept-signed (controlAt s k + 52),
+      )
+
+  pub kept-control : (k : ℕ) → controlFields (keptOf s) k ≡ controlFields s k
+  unfolding controlFields controlKind controlFlags
+  kept-control k =
+      rw (kept-id k, kept-limits k, kept-control-at k, kept-word (controlAt s k + 4), kept-word (controlAt s k + 56))
+
+  pub kept-record : (k : ℕ) → controlAt s k + 68 ≤ length s → controlRecord (keptOf s) k ≡ controlRecord s k
+  unfolding controlRecord
+  kept-record k h = rw (kept-control-at k) (kept-part (controlAt s k) 68 h)
