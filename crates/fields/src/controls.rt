@@ -3,6 +3,7 @@ ghost use mathlib.Core.Path.{_≡_};
 ghost use Rattle.fields.specs.Fields.{controlId, limitsOf, controlFields, controlRecord};
 use crate::Control;
 use crate::Limits;
+use crate::contents;
 
 // The id of control k.
 pub fn control_id(s: &[u8], k: u32) -> u32

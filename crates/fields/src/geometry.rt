@@ -5,6 +5,7 @@ ghost use Rattle.fields.specs.Fields.{rangeAt, widthsOf, heightsOf, line
 use crate::Fraction;
 use crate::Range;
 use crate::Rect;
+use crate::contents;
 
 // Least, greatest and step at a place.
 fn range_at(s: &[u8], at: usize) -> Range
