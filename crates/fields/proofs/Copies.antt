@@ -16,7 +16,7 @@ use Rattle.wire.proofs.Lists.{past-end}
 use Rattle.wire.proofs.Stores.{sets-at, sets-behind, over-zeros}
 use Rattle.wire.proofs.Words.{word-same}
 use Rattle.fields.specs.Copy.{keptOf}
-use Rattle.fields.specs.Fields.{identityAt, identityOf, formatsAt, formatCount, geometryAt, controlsAt, controlCount, formatAt, formatCode, formatDescription, rangeAt, widthsOf, heightsOf, lineAlignment, rectAt, cropBounds, cropDefault, pixelAspect, controlAt, controlId, controlKind, limitsOf, controlFlags, controlFields, controlRecord}
+use Rattle.fields.specs.Fields.{identityAt, identityOf, formatsAt, formatCount, geometryAt, controlsAt, controlCount, formatAt, formatCode, formatDescription, controlAt, controlId, controlKind, limitsOf, controlFlags, controlFields, controlRecord}
 
 -- a zero, wherever it is asked for
 zeros : (n j : ℕ) → getD {A = ℕ} (replicate n 0) j 0 ≡ 0
@@ -75,7 +75,7 @@ module _ (s : List ℕ) (fits : length s ≤ 2688) where
   unfolding formatAt formatsAt
   kept-format-at k = rw (kept-word 8)
 
-  kept-geometry-at : geometryAt (keptOf s) ≡ geometryAt s
+  pub kept-geometry-at : geometryAt (keptOf s) ≡ geometryAt s
   unfolding geometryAt
   kept-geometry-at = kept-word 16
 
@@ -94,38 +94,6 @@ module _ (s : List ℕ) (fits : length s ≤ 2688) where
   pub kept-identity : identityAt s + 84 ≤ length s → identityOf (keptOf s) ≡ identityOf s
   unfolding identityOf
   kept-identity h = rw kept-identity-at (kept-part (identityAt s) 84 h)
-
-  kept-range : (at : ℕ) → rangeAt (keptOf s) at ≡ rangeAt s at
-  unfolding rangeAt
-  kept-range at = rw (kept-word at, kept-word (at + 4), kept-word (at + 8))
-
-  kept-rect : (at : ℕ) → rectAt (keptOf s) at ≡ rectAt s at
-  unfolding rectAt
-  kept-rect at = rw (kept-signed at, kept-signed (at + 4), kept-signed (at + 8), kept-signed (at + 12))
-
-  pub kept-widths : widthsOf (keptOf s) ≡ widthsOf s
-  unfolding widthsOf
-  kept-widths = rw kept-geometry-at (kept-range (geometryAt s))
-
-  pub kept-heights : heightsOf (keptOf s) ≡ heightsOf s
-  unfolding heightsOf
-  kept-heights = rw kept-geometry-at (kept-range (geometryAt s + 12))
-
-  pub kept-alignment : lineAlignment (keptOf s) ≡ lineAlignment s
-  unfolding lineAlignment
-  kept-alignment = rw kept-geometry-at (kept-word (geometryAt s + 24))
-
-  pub kept-bounds : cropBounds (keptOf s) ≡ cropBounds s
-  unfolding cropBounds
-  kept-bounds = rw kept-geometry-at (kept-rect (geometryAt s + 28))
-
-  pub kept-default : cropDefault (keptOf s) ≡ cropDefault s
-  unfolding cropDefault
-  kept-default = rw kept-geometry-at (kept-rect (geometryAt s + 44))
-
-  pub kept-aspect : pixelAspect (keptOf s) ≡ pixelAspect s
-  unfolding pixelAspect
-  kept-aspect = rw (kept-geometry-at, kept-word (geometryAt s + 60), kept-word (geometryAt s + 64))
 
   pub kept-id : (k : ℕ) → controlId (keptOf s) k ≡ controlId s k
   unfolding controlId

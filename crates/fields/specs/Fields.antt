@@ -4,9 +4,6 @@ use Prim.Native.Nat.{ℕ, _+_, _*_}
 use lib.ListN.{take, drop}
 use Rattle.wire.specs.Words.{wordAt}
 use Rattle.wire.specs.Signed.{signedAt}
-use Rattle.fields.specs.declared.Range.{Range}
-use Rattle.fields.specs.declared.Rect.{Rect}
-use Rattle.fields.specs.declared.Fraction.{Fraction}
 use Rattle.fields.specs.declared.Limits.{Limits}
 use Rattle.fields.specs.declared.Control.{Control}
 
@@ -60,44 +57,6 @@ formatCode s k = wordAt s (formatAt s k)
 
 unfoldable pub formatDescription : List ℕ → ℕ → List ℕ
 formatDescription s k = take 32 (drop (formatAt s k + 4) s)
-
--- ---- geometry, 68 bytes: least, greatest and step of the width, then of the height; line alignment; bounds; default; pixel aspect
-
--- least, greatest and step at a place
-unfoldable pub rangeAt : List ℕ → ℕ → Range
-rangeAt s at = record { least = wordAt s at; greatest = wordAt s (at + 4); step = wordAt s (at + 8) }
-
-unfoldable pub widthsOf : List ℕ → Range
-widthsOf s = rangeAt s (geometryAt s)
-
-unfoldable pub heightsOf : List ℕ → Range
-heightsOf s = rangeAt s (geometryAt s + 12)
-
-unfoldable pub lineAlignment : List ℕ → ℕ
-lineAlignment s = wordAt s (geometryAt s + 24)
-
--- left, top, width and height at a place
-unfoldable pub rectAt : List ℕ → ℕ → Rect
-rectAt s at =
-    record {
-      left = signedAt s at;
-      top = signedAt s (at + 4);
-      width = signedAt s (at + 8);
-      height = signedAt s (at + 12);
-    }
-
-unfoldable pub cropBounds : List ℕ → Rect
-cropBounds s = rectAt s (geometryAt s + 28)
-
-unfoldable pub cropDefault : List ℕ → Rect
-cropDefault s = rectAt s (geometryAt s + 44)
-
-unfoldable pub pixelAspect : List ℕ → Fraction
-pixelAspect s =
-    record {
-      numerator = wordAt s (geometryAt s + 60);
-      denominator = wordAt s (geometryAt s + 64);
-    }
 
 -- ---- control k, 68 bytes: id, type, name, minimum, maximum, step, default, flags, two reserved words
 

@@ -4,7 +4,6 @@ mod contents;
 mod controls;
 mod copy;
 mod formats;
-mod geometry;
 
 pub use contents::control_at;
 pub use contents::control_count;
@@ -17,36 +16,6 @@ pub use controls::control_record;
 pub use copy::kept;
 pub use formats::format_code;
 pub use formats::format_description;
-pub use geometry::crop_bounds;
-pub use geometry::crop_default;
-pub use geometry::heights;
-pub use geometry::line_alignment;
-pub use geometry::pixel_aspect;
-pub use geometry::widths;
-
-// The allowed widths or heights: from least to greatest by step.
-#[repr(C)]
-pub struct Range {
-    pub least: u32,
-    pub greatest: u32,
-    pub step: u32,
-}
-
-// v4l2_rect.
-#[repr(C)]
-pub struct Rect {
-    pub left: i32,
-    pub top: i32,
-    pub width: i32,
-    pub height: i32,
-}
-
-// v4l2_fract.
-#[repr(C)]
-pub struct Fraction {
-    pub numerator: u32,
-    pub denominator: u32,
-}
 
 // The four numbers of a control: its values go from minimum to maximum by step, and initial is the default.
 #[repr(C)]

@@ -14,10 +14,11 @@ use lib.Signed.{leZ}
 use Rattle.wire.specs.Words.{wordAt}
 use Rattle.wire.specs.Signed.{above}
 use Rattle.wire.proofs.Integers.{reach}
-use Rattle.fields.specs.declared.Range.{Range}
-use Rattle.fields.specs.declared.Rect.{Rect}
+use Rattle.geometry.specs.declared.Range.{Range}
+use Rattle.geometry.specs.declared.Rect.{Rect}
 use Rattle.fields.specs.declared.Limits.{Limits}
-use Rattle.fields.specs.Fields.{identityAt, identityCount, formatsAt, formatCount, geometryAt, geometryCount, controlsAt, controlCount, driverOf, cardOf, busOf, formatCode, formatDescription, widthsOf, heightsOf, lineAlignment, cropBounds, cropDefault, pixelAspect, controlAt, controlId, controlKind, controlName, limitsOf, controlFlags}
+use Rattle.fields.specs.Fields.{identityAt, identityCount, formatsAt, formatCount, geometryAt, geometryCount, controlsAt, controlCount, driverOf, cardOf, busOf, formatCode, formatDescription, controlAt, controlId, controlKind, controlName, limitsOf, controlFlags}
+use Rattle.geometry.specs.Geometry.{widthsOf, heightsOf, lineAlignment, cropBounds, cropDefault, pixelAspect}
 use Rattle.sheet.specs.Rules.{hasZero, contentsOk, identityOk, knownCode, newCode, formatOk, formatsOk, rangeOk, alignmentOk, boundOk, insideOk, boundsOk, defaultOk, aspectOk, geometryOk, onGrid, gridOk, exactly, limitsOk, controlOk, risingAt, controlsOk, bodiesOk, goodSheet}
 use Rattle.sheet.proofs.Truth.{both, either, denied, all-at, any-at}
 

@@ -9,7 +9,8 @@ use borrow.Author.Tests.{leb-true, ltb-true, ltb-false, eqb-true, eq-eqb}
 use lib.Dec.{leb, ltb, eqb}
 use lib.ListN.{length}
 use Rattle.wire.specs.Words.{wordAt}
-use Rattle.fields.specs.Fields.{identityAt, formatCount, formatAt, controlCount, driverOf, cardOf, busOf, formatCode, formatDescription, widthsOf, heightsOf, lineAlignment, cropBounds, cropDefault, pixelAspect, controlAt, controlId, controlKind, controlName, limitsOf, controlFlags}
+use Rattle.fields.specs.Fields.{identityAt, formatCount, formatAt, controlCount, driverOf, cardOf, busOf, formatCode, formatDescription, controlAt, controlId, controlKind, controlName, limitsOf, controlFlags}
+use Rattle.geometry.specs.Geometry.{widthsOf, heightsOf, lineAlignment, cropBounds, cropDefault, pixelAspect}
 use Rattle.sheet.specs.Rules.{hasZero, contentsOk, identityOk, knownCode, newCode, formatOk, formatsOk, rangeOk, alignmentOk, boundOk, insideOk, boundsOk, defaultOk, aspectOk, geometryOk, limitsOk, controlOk, risingAt, controlsOk, bodiesOk, goodSheet}
 use Rattle.sheet.proofs.Truth.{both, either, denied, all-at}
 use Rattle.sheet.proofs.Facts.{Contents, contents-of, Sizes, sizes-of, Alignment, alignment-of, Bound, bound-of, Inside, inside-of, Ended, ended-of, Numbers, numbers-of}

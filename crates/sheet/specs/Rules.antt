@@ -8,11 +8,12 @@ use lib.IntN.{ℤ, pos, negsuc, _+ℤ_, _-ℤ_}
 use lib.Signed.{leZ}
 use Rattle.wire.specs.Words.{wordAt}
 use Rattle.wire.specs.Signed.{above}
-use Rattle.fields.specs.declared.Range.{Range}
-use Rattle.fields.specs.declared.Rect.{Rect}
+use Rattle.geometry.specs.declared.Range.{Range}
+use Rattle.geometry.specs.declared.Rect.{Rect}
 use Rattle.fields.specs.declared.Limits.{Limits}
 use Rattle.sheet.specs.Folds.{allBelow, anyBelow}
-use Rattle.fields.specs.Fields.{identityAt, identityCount, formatsAt, formatCount, geometryAt, geometryCount, controlsAt, controlCount, driverOf, cardOf, busOf, formatCode, formatDescription, widthsOf, heightsOf, lineAlignment, cropBounds, cropDefault, pixelAspect, controlAt, controlId, controlKind, controlName, limitsOf, controlFlags}
+use Rattle.fields.specs.Fields.{identityAt, identityCount, formatsAt, formatCount, geometryAt, geometryCount, controlsAt, controlCount, driverOf, cardOf, busOf, formatCode, formatDescription, controlAt, controlId, controlKind, controlName, limitsOf, controlFlags}
+use Rattle.geometry.specs.Geometry.{widthsOf, heightsOf, lineAlignment, cropBounds, cropDefault, pixelAspect}
 
 -- one of the bytes is zero
 unfoldable pub hasZero : List ℕ → Bool

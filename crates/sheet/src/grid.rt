@@ -6,7 +6,7 @@ ghost use Prim.Native.Nat.{_-_, _%_};
 ghost use Rattle.wire.specs.Signed.{signed};
 ghost use Rattle.sheet.specs.Rules.{rangeOk, onGrid, gridOk};
 ghost use Rattle.sheet.specs.Words.{limitsOfWords};
-use fields::Range;
+use geometry::Range;
 
 // a less b, 0 where b is greater.
 fn minus(a: u32, b: u32) -> u32

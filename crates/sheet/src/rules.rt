@@ -1,7 +1,8 @@
 // Whether a slice is a good device sheet, body by body.
 ghost use mathlib.Core.Path.{_≡_};
 ghost use Rattle.wire.specs.Signed.{signed, signedAt};
-ghost use Rattle.fields.specs.Fields.{cropBounds, cropDefault, limitsOf};
+ghost use Rattle.fields.specs.Fields.{limitsOf};
+ghost use Rattle.geometry.specs.Geometry.{cropBounds, cropDefault};
 ghost use Rattle.sheet.specs.Rules.{contentsOk, identityOk, knownCode, newCode, formatOk, formatsOk, alignmentOk, boundOk, insideOk, boundsOk, defaultOk, aspectOk, geometryOk, limitsOk, controlOk, risingAt, controlsOk, bodiesOk, goodSheet};
 use crate::grid;
 use crate::text;
@@ -147,7 +148,7 @@ fn default_ok(s: &[u8]) -> bool
 fn aspect_ok(s: &[u8]) -> bool
     ensures { λ r. ⌜ r ≡ aspectOk (now (s .entry)) ⌝ }
 {
-    let a = fields::pixel_aspect(s);
+    let a = geometry::pixel_aspect(s);
     (0 < a.numerator) & (0 < a.denominator)
 }
 
@@ -155,9 +156,9 @@ fn aspect_ok(s: &[u8]) -> bool
 fn geometry_ok(s: &[u8]) -> bool
     ensures { λ r. ⌜ r ≡ geometryOk (now (s .entry)) ⌝ }
 {
-    grid::range_ok(fields::widths(s))
-        & grid::range_ok(fields::heights(s))
-        & alignment_ok(fields::line_alignment(s))
+    grid::range_ok(geometry::widths(s))
+        & grid::range_ok(geometry::heights(s))
+        & alignment_ok(geometry::line_alignment(s))
         & bounds_ok(s)
         & default_ok(s)
         & aspect_ok(s)

@@ -1,6 +1,6 @@
 -- The words of the two directions. Assumes nothing.
 use Rattle.sheet.specs.Rules.{boundsOk}
-use Rattle.fields.specs.Fields.{cropBounds, rectAt}
+use Rattle.geometry.specs.Geometry.{cropBounds, rectAt}
 use Rattle.wire.specs.Signed.{signedAt}
 use borrow.Author.Needs.{needs}
 use Rattle.sheet.proofs.rules.bounds_ok.Statement.{statement}

@@ -1,6 +1,6 @@
 -- The two directions. Assumes nothing.
 use Rattle.sheet.specs.Rules.{defaultOk}
-use Rattle.fields.specs.Fields.{cropBounds, cropDefault, rectAt}
+use Rattle.geometry.specs.Geometry.{cropBounds, cropDefault, rectAt}
 use borrow.Author.Needs.{needs}
 use Rattle.sheet.proofs.rules.default_ok.Statement.{statement}
 use Rattle.sheet.proofs.rules.default_ok.Tie as tie

@@ -1,0 +1,49 @@
+-- Four words as signed numbers. Assumes nothing.
+use Rattle.wire.proofs.Integers.{again}
+use Rattle.geometry.specs.Geometry.{rectAt}
+use borrow.Author.Needs.{needs}
+use Rattle.geometry.proofs.rect_at.Statement.{statement}
+use Rattle.geometry.proofs.rect_at.Tie as tie
+
+signed-at-requires : tie.Need-signed-at-requires
+signed-at-requires c κs = search needs
+
+add-signed-at : tie.Need-add-signed-at
+add-signed-at c = search needs
+
+signed-at-requires-2 : tie.Need-signed-at-requires-2
+signed-at-requires-2 c κs = search needs
+
+add-signed-at-2 : tie.Need-add-signed-at-2
+add-signed-at-2 c = search needs
+
+signed-at-requires-3 : tie.Need-signed-at-requires-3
+signed-at-requires-3 c κs = search needs
+
+add-signed-at-3 : tie.Need-add-signed-at-3
+add-signed-at-3 c = search needs
+
+signed-at-requires-4 : tie.Need-signed-at-requires-4
+signed-at-requires-4 c κs = search needs
+
+returns : tie.Need-returns
+unfolding rectAt
+returns c =
+    let l = c .before .before .before .signed-at in
+    let t = c .before .before .signed-at2 in
+    let w = c .before .signed-at3 in
+    let h = c .signed-at4 in
+    cc (again (l .result) (l .ok), again (t .result) (t .ok), again (w .result) (w .ok), again (h .result) (h .ok))
+
+pub rect-at-spec : {M : Type 1} → statement M
+rect-at-spec =
+    tie.close
+    (tie.spec
+    signed-at-requires
+    add-signed-at
+    signed-at-requires-2
+    add-signed-at-2
+    signed-at-requires-3
+    add-signed-at-3
+    signed-at-requires-4
+    returns)

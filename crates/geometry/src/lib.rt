@@ -1,0 +1,100 @@
+// The geometry of a sheet: sizes, line alignment, crop bounds and default, pixel aspect.
+ghost use mathlib.Core.Path.{_≡_};
+ghost use Prim.Native.Nat.{_<_};
+ghost use Rattle.geometry.specs.Geometry.{rangeAt, widthsOf, heightsOf, lineAlignment, rectAt, cropBounds, cropDefault, pixelAspect};
+
+// The allowed widths or heights: from least to greatest by step.
+#[repr(C)]
+pub struct Range {
+    pub least: u32,
+    pub greatest: u32,
+    pub step: u32,
+}
+
+// v4l2_rect.
+#[repr(C)]
+pub struct Rect {
+    pub left: i32,
+    pub top: i32,
+    pub width: i32,
+    pub height: i32,
+}
+
+// v4l2_fract.
+#[repr(C)]
+pub struct Fraction {
+    pub numerator: u32,
+    pub denominator: u32,
+}
+
+// Least, greatest and step at a place.
+fn range_at(s: &[u8], at: usize) -> Range
+    requires { ⌜ at < 2199023255552 ⌝ }
+    ensures { λ r. ⌜ r ≡ rangeAt (now (s .entry)) at ⌝ }
+{
+    Range {
+        least: wire::word_at(s, at),
+        greatest: wire::word_at(s, at + 4),
+        step: wire::word_at(s, at + 8),
+    }
+}
+
+// Left, top, width and height at a place.
+fn rect_at(s: &[u8], at: usize) -> Rect
+    requires { ⌜ at < 2199023255552 ⌝ }
+    ensures { λ r. ⌜ r ≡ rectAt (now (s .entry)) at ⌝ }
+{
+    Rect {
+        left: wire::signed_at(s, at),
+        top: wire::signed_at(s, at + 4),
+        width: wire::signed_at(s, at + 8),
+        height: wire::signed_at(s, at + 12),
+    }
+}
+
+// The allowed widths.
+pub fn widths(s: &[u8]) -> Range
+    ensures { λ r. ⌜ r ≡ widthsOf (now (s .entry)) ⌝ }
+{
+    range_at(s, fields::geometry_at(s))
+}
+
+// The allowed heights.
+pub fn heights(s: &[u8]) -> Range
+    ensures { λ r. ⌜ r ≡ heightsOf (now (s .entry)) ⌝ }
+{
+    range_at(s, fields::geometry_at(s) + 12)
+}
+
+// What the bytes of a line are rounded up to.
+pub fn line_alignment(s: &[u8]) -> u32
+    ensures { λ r. ⌜ r ≡ lineAlignment (now (s .entry)) ⌝ }
+{
+    let at = fields::geometry_at(s);
+    wire::word_at(s, at + 24)
+}
+
+// The rectangle that a crop stays inside.
+pub fn crop_bounds(s: &[u8]) -> Rect
+    ensures { λ r. ⌜ r ≡ cropBounds (now (s .entry)) ⌝ }
+{
+    rect_at(s, fields::geometry_at(s) + 28)
+}
+
+// The crop at opening.
+pub fn crop_default(s: &[u8]) -> Rect
+    ensures { λ r. ⌜ r ≡ cropDefault (now (s .entry)) ⌝ }
+{
+    rect_at(s, fields::geometry_at(s) + 44)
+}
+
+// A pixel's height over its width.
+pub fn pixel_aspect(s: &[u8]) -> Fraction
+    ensures { λ r. ⌜ r ≡ pixelAspect (now (s .entry)) ⌝ }
+{
+    let at = fields::geometry_at(s);
+    Fraction {
+        numerator: wire::word_at(s, at + 60),
+        denominator: wire::word_at(s, at + 64),
+    }
+}
