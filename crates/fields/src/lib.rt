@@ -13,6 +13,7 @@ pub use contents::identity;
 pub use controls::control_fields;
 pub use controls::control_id;
 pub use controls::control_record;
+pub use copy::Sheet;
 pub use copy::kept;
 pub use formats::format_code;
 pub use formats::format_description;

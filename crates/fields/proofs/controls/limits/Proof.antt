@@ -35,11 +35,12 @@ signed-at-requires-4 c κs = search needs
 returns : tie.Need-returns
 unfolding limitsOf
 returns c =
-    let l = c .before .before .before .signed-at in
-    let t = c .before .before .signed-at2 in
-    let w = c .before .signed-at3 in
-    let h = c .signed-at4 in
-    cc (again (l .result) (l .ok), again (t .result) (t .ok), again (w .result) (w .ok), again (h .result) (h .ok))
+    cc (
+      again (c .before .before .before .signed-at .result) (c .before .before .before .signed-at .ok),
+      again (c .before .before .signed-at2 .result) (c .before .before .signed-at2 .ok),
+      again (c .before .signed-at3 .result) (c .before .signed-at3 .ok),
+      again (c .signed-at4 .result) (c .signed-at4 .ok),
+    )
 
 pub limits-spec : {M : Type 1} → statement M
 limits-spec =
