@@ -96,10 +96,11 @@ sizes-of r e =
       whole = omega (arith, div-add-mod' (r .greatest - r .least) (r .step), eqb-true ((r .greatest - r .least) % r .step) 0 (t6 .1));
     }
 
--- an alignment is 2 to 64 and divides 64
+-- an alignment is even, 2 to 64, and divides 64
 pub record Alignment (a : ℕ) : Type 0 where
   pub low : 2 ≤ a
   pub high : a ≤ 64
+  pub even : a % 2 ≡ 0
   pub times : ℕ
   pub whole : times * a ≡ 64
 
@@ -110,14 +111,14 @@ alignment-of a e =
     ⊎-elim (λ e4.
     ⊎-elim (λ e3.
     ⊎-elim (λ e2.
-    ⊎-elim (λ e1. is 2 32 (eqb-true a 2 e1) refl (omega arith) (omega arith)) (λ e1. is 4 16 (eqb-true a 4 e1) refl (omega arith) (omega arith)) (either _ _ e2))
-    (λ e2. is 8 8 (eqb-true a 8 e2) refl (omega arith) (omega arith)) (either _ _ e3))
-    (λ e3. is 16 4 (eqb-true a 16 e3) refl (omega arith) (omega arith)) (either _ _ e4))
-    (λ e4. is 32 2 (eqb-true a 32 e4) refl (omega arith) (omega arith)) (either _ _ e5))
-    (λ e5. is 64 1 (eqb-true a 64 e5) refl (omega arith) (omega arith)) (either _ _ e)
+    ⊎-elim (λ e1. is 2 32 (eqb-true a 2 e1) refl refl (omega arith) (omega arith)) (λ e1. is 4 16 (eqb-true a 4 e1) refl refl (omega arith) (omega arith)) (either _ _ e2))
+    (λ e2. is 8 8 (eqb-true a 8 e2) refl refl (omega arith) (omega arith)) (either _ _ e3))
+    (λ e3. is 16 4 (eqb-true a 16 e3) refl refl (omega arith) (omega arith)) (either _ _ e4))
+    (λ e4. is 32 2 (eqb-true a 32 e4) refl refl (omega arith) (omega arith)) (either _ _ e5))
+    (λ e5. is 64 1 (eqb-true a 64 e5) refl refl (omega arith) (omega arith)) (either _ _ e)
   where
-    is : (n m : ℕ) → a ≡ n → m * n ≡ 64 → 2 ≤ n → n ≤ 64 → Alignment a
-    is n m q w l h = rw q (record { low = l; high = h; times = m; whole = w })
+    is : (n m : ℕ) → a ≡ n → m * n ≡ 64 → n % 2 ≡ 0 → 2 ≤ n → n ≤ 64 → Alignment a
+    is n m q w v l h = rw q (record { low = l; high = h; even = v; times = m; whole = w })
 
 -- ---- crop: one direction of the bounds, and of a rectangle inside them
 
