@@ -1,0 +1,114 @@
+// The values of controls.
+ghost use mathlib.Core.Path.{_≡_};
+ghost use Rattle.control.specs.Values.{openingValues, readingAt, reading, rangedAt, settingAt, settingOf, storedValues};
+use crate::Reading;
+use crate::Setting;
+use crate::find;
+use fields::Control;
+use fields::Limits;
+use ioctl::Refusal;
+
+// One value for each control.
+pub type Values = [u32; 32];
+
+// The defaults of the sheet's controls, then zeros.
+pub fn at_opening(s: &[u8]) -> Values
+    ensures { λ r. ⌜ r ≡ openingValues (now (s .entry)) ⌝ }
+{
+    let n = find::count(s);
+    let mut values = [0u32; 32];
+    let mut k: u32 = 0;
+    while k < n {
+        let at = fields::control_at(s, k);
+        values[k as usize] = wire::word_at(s, at + 52);
+        k += 1;
+    }
+    values
+}
+
+// What reading control c, whose value is v, answers.
+fn reading_at(c: Control, v: u32) -> Reading
+    ensures { λ r. ⌜ r ≡ readingAt c v ⌝ }
+{
+    if c.flags % 2 == 1 {
+        return Reading::Refused(Refusal::ControlDisabled);
+    }
+    if c.kind == 4 {
+        return Reading::Refused(Refusal::ControlIsButton);
+    }
+    Reading::Value(v)
+}
+
+// The value of the control with this id.
+pub fn read(s: &[u8], values: Values, id: u32) -> Reading
+    ensures { λ r. ⌜ r ≡ reading (now (s .entry)) values id ⌝ }
+{
+    let k = find::place(s, id);
+    if find::count(s) <= k {
+        return Reading::Refused(Refusal::NoSuchControl);
+    }
+    let v = values[k as usize];
+    reading_at(fields::control_fields(s, k), v)
+}
+
+// A value within the limits goes to the nearest of the grid, and is stored at place k.
+fn ranged(l: Limits, k: u32, value: u32) -> Setting
+    ensures { λ r. ⌜ r ≡ rangedAt l k value ⌝ }
+{
+    let v = wire::as_signed(value);
+    if v < l.minimum {
+        return Setting::Refused(Refusal::OutOfRange);
+    }
+    if l.maximum < v {
+        return Setting::Refused(Refusal::OutOfRange);
+    }
+    Setting::Stored(k, wire::as_bits(grid::nearest_value(l, v)))
+}
+
+// What setting control c at place k to a value does.
+fn setting_at(c: Control, k: u32, value: u32) -> Setting
+    ensures { λ r. ⌜ r ≡ settingAt c k value ⌝ }
+{
+    if c.flags % 2 == 1 {
+        return Setting::Refused(Refusal::ControlDisabled);
+    }
+    if c.flags / 4 % 2 == 1 {
+        return Setting::Refused(Refusal::ControlReadOnly);
+    }
+    if c.flags / 2 % 2 == 1 {
+        return Setting::Refused(Refusal::ControlGrabbed);
+    }
+    if c.kind == 4 {
+        return Setting::Pressed;
+    }
+    ranged(c.limits, k, value)
+}
+
+// What setting the control with this id to a value does.
+pub fn set(s: &[u8], id: u32, value: u32) -> Setting
+    ensures { λ r. ⌜ r ≡ settingOf (now (s .entry)) id value ⌝ }
+{
+    let k = find::place(s, id);
+    if find::count(s) <= k {
+        return Setting::Refused(Refusal::NoSuchControl);
+    }
+    setting_at(fields::control_fields(s, k), k, value)
+}
+
+// The values after a setting.
+pub fn stored(values: Values, what: Setting) -> Values
+    ensures { λ r. ⌜ r ≡ storedValues values what ⌝ }
+{
+    match what {
+        Setting::Stored(k, v) => {
+            if 32 <= k {
+                return values;
+            }
+            let mut next = values;
+            next[k as usize] = v;
+            next
+        }
+        Setting::Pressed => values,
+        Setting::Refused(_) => values,
+    }
+}

@@ -1,0 +1,5 @@
+pub mod Casts
+pub mod Counts
+pub mod Clamping
+pub mod Laws
+pub mod Figures

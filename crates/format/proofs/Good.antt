@@ -1,0 +1,180 @@
+-- The picture of a format that a good sheet allows: its sizes, and its planes one behind the other from the first byte to the last.
+-- Assumes nothing.
+use Prim.Native.Nat.{ℕ, zero, suc, _+_, _-_, _*_, _/_, _%_, min, _≤_, _<_}
+use mathlib.Core.Path.{_≡_, refl, sym, ap, _∙_}
+use mathlib.Core.Logic.{_⊎_, inl, inr, ⊎-elim}
+use mathlib.Core.Bool.{Bool, true, false, cond, _||_}
+use mathlib.Core.List.{List, [], _∷_}
+use native.Mathlib.Omega.{arith}
+use native.Mathlib.Nat.{div-add-mod', mul-le-mul, mul-le-mul-right, mul-comm, mul-assoc, min-eq-left}
+use borrow.Author.Tests.{eqb-true}
+use lib.Dec.{eqb}
+use lib.ListN.{length, getD}
+use Rattle.sheet.proofs.Facts.{Alignment}
+use Rattle.sheet.proofs.Truth.{either}
+use Rattle.format.specs.declared.Format.{Format}
+use Rattle.format.specs.declared.Component.{Component}
+use Rattle.format.specs.declared.Component.the-variants.{Nothing, Packed, Luma, Cb, Cr, CbCr}
+use Rattle.format.specs.Code.{YU12, YV12, NV12, bytesPerPixel, halfChroma}
+use Rattle.format.specs.Size.{roundUp, bytesPerLine, heldHeight, firstPlane, imageSize, slotSize}
+use Rattle.format.specs.Planes.{planesOf, planeCount, componentOf, componentLength, planeLength, planeStart}
+use Rattle.format.proofs.Bounds.{round-up-whole, round-up-least, round-up-nearest, pixel-some, pixel-most}
+
+-- sizes within 2..8192, an even height, and an alignment of a good sheet
+pub record Allowed (f : Format) (a : ℕ) : Type 0 where
+  pub width-some : 2 ≤ f .width
+  pub width-most : f .width ≤ 8192
+  pub height-some : 2 ≤ f .height
+  pub height-most : f .height ≤ 8192
+  pub height-even : f .height % 2 ≡ 0
+  pub alignment : Alignment a
+
+-- a 4:2:0 code has one byte a pixel in its first plane
+half-chroma-pixel : (c : ℕ) → halfChroma c ≡ true → bytesPerPixel c ≡ 1
+unfolding halfChroma bytesPerPixel
+half-chroma-pixel c e =
+    ⊎-elim (λ e1. ⊎-elim (λ e2. rw (eqb-true c YU12 e2)) (λ e2. rw (eqb-true c YV12 e2)) (either (eqb c YU12) (eqb c YV12) e1))
+    (λ e1. rw (eqb-true c NV12 e1)) (either (eqb c YU12 || eqb c YV12) (eqb c NV12) e)
+
+-- a product by the halves of its factors
+by-halves : (i j : ℕ) → i * 2 * (j * 2) ≡ i * j * 2 * 2
+by-halves i j = sym (mul-assoc (i * 2) j 2) ∙ ap (λ (x : ℕ). x * 2) (mul-assoc i 2 j ∙ ap (λ (x : ℕ). i * x) (mul-comm 2 j) ∙ sym (mul-assoc i j 2))
+
+-- the planes of a code, and whether it is a 4:2:0 code, by the three tests that decide both
+planesBy : Bool → Bool → Bool → List Component
+planesBy x y z = cond x (Luma ∷ Cb ∷ Cr ∷ []) (cond y (Luma ∷ Cr ∷ Cb ∷ []) (cond z (Luma ∷ CbCr ∷ []) (Packed ∷ [])))
+
+count-most : (x y z : Bool) → length (planesBy x y z) ≤ 3
+unfolding planesBy
+count-most true y z = omega arith
+count-most false true z = omega arith
+count-most false false true = omega arith
+count-most false false false = omega arith
+
+-- a format has at most three planes
+pub plane-count-most : (c : ℕ) → planeCount c ≤ 3
+unfolding planeCount planesOf planesBy
+plane-count-most c = count-most (eqb c YU12) (eqb c YV12) (eqb c NV12)
+
+module _ (f : Format) (a : ℕ) (ok : Allowed f a) where
+  held : heldHeight f ≡ f .height
+  unfolding heldHeight
+  held = min-eq-left (ok .height-most)
+
+  -- bytes per line, without the limits
+  pub line-plain : bytesPerLine f a ≡ roundUp (f .width * bytesPerPixel (f .code)) a
+  unfolding bytesPerLine
+  line-plain = rw (min-eq-left {n = f .width} {m = 8192} (ok .width-most), min-eq-left {n = a} {m = 64} (ok .alignment .high))
+
+  pub line-some : 2 ≤ bytesPerLine f a
+  line-some =
+      let w : 2 * 1 ≤ f .width * bytesPerPixel (f .code) = mul-le-mul (ok .width-some) (pixel-some (f .code)) in
+      omega (arith, line-plain, round-up-least (f .width * bytesPerPixel (f .code)) a (omega (arith, ok .alignment .low)))
+
+  -- a full line of 8192 pixels needs no rounding
+  pub line-most : bytesPerLine f a ≤ 8192 * bytesPerPixel (f .code)
+  line-most =
+      let b = bytesPerPixel (f .code) in
+      let t = ok .alignment .times in
+      let e : 8192 * b ≡ 128 * b * t * a = full b t (ok .alignment .whole) in
+      let w : f .width * b ≤ 8192 * b = mul-le-mul-right b (ok .width-most) in
+      let r = round-up-nearest (f .width * b) a (128 * b * t) (omega (arith, ok .alignment .low)) (omega arith) in
+      omega (arith, line-plain)
+    where
+      full : (b t : ℕ) → t * a ≡ 64 → 8192 * b ≡ 128 * b * t * a
+      full b t q = sym (mul-assoc (128 * b) t a ∙ rw q (omega arith))
+
+  -- a line is even
+  pub line-even : bytesPerLine f a % 2 ≡ 0
+  line-even =
+      let r = round-up-whole (f .width * bytesPerPixel (f .code)) a in
+      let e : a ≡ a / 2 * 2 = omega (arith, ok .alignment .even) in
+      let q : bytesPerLine f a ≡ r .0 * (a / 2) * 2 = line-plain ∙ r .1 ∙ ap (λ (x : ℕ). r .0 * x) e ∙ sym (mul-assoc (r .0) (a / 2) 2) in
+      omega arith
+
+  -- at least 4 bytes, at most 3 for each of 8192 x 8192 pixels
+  pub image-some : 4 ≤ imageSize f a
+  unfolding imageSize firstPlane
+  image-some = by (halfChroma (f .code))
+    where
+      n : 4 ≤ bytesPerLine f a * heldHeight f
+      n = rw held (mul-le-mul {n₁ = 2} {m₁ = 2} line-some (ok .height-some))
+
+      by : (t : Bool) → 4 ≤ cond t (bytesPerLine f a * heldHeight f + bytesPerLine f a * heldHeight f / 2) (bytesPerLine f a * heldHeight f)
+      by true = omega (arith, n)
+      by false = n
+
+  pub image-most : imageSize f a ≤ 201326592
+  unfolding imageSize firstPlane
+  image-most = by (halfChroma (f .code)) refl
+    where
+      h : heldHeight f ≤ 8192
+      h = omega (arith, held, ok .height-most)
+
+      by : (t : Bool) → halfChroma (f .code) ≡ t
+          → cond t (bytesPerLine f a * heldHeight f + bytesPerLine f a * heldHeight f / 2) (bytesPerLine f a * heldHeight f) ≤ 201326592
+      by true e =
+          let l : bytesPerLine f a ≤ 8192 = omega (arith, line-most, half-chroma-pixel (f .code) e) in
+          let p : bytesPerLine f a * heldHeight f ≤ 8192 * 8192 = mul-le-mul l h in omega arith
+      by false e =
+          let l : bytesPerLine f a ≤ 24576 = omega (arith, line-most, pixel-most (f .code)) in
+          let p : bytesPerLine f a * heldHeight f ≤ 24576 * 8192 = mul-le-mul l h in p
+
+  -- a quarter of the first plane is Cb or Cr, a half of it the two interleaved
+  quarter : bytesPerLine f a * heldHeight f ≡ bytesPerLine f a / 2 * (heldHeight f / 2) * 2 * 2
+  quarter =
+      let l : bytesPerLine f a ≡ bytesPerLine f a / 2 * 2 = omega (arith, line-even) in
+      let h : heldHeight f ≡ heldHeight f / 2 * 2 = omega (arith, held, ok .height-even) in
+      product (bytesPerLine f a) (heldHeight f) (bytesPerLine f a / 2) (heldHeight f / 2) l h
+    where
+      product : (l h i j : ℕ) → l ≡ i * 2 → h ≡ j * 2 → l * h ≡ i * j * 2 * 2
+      product l h i j p q = rw (p, q) (by-halves i j)
+
+  interleaved : bytesPerLine f a * (heldHeight f / 2) ≡ bytesPerLine f a / 2 * (heldHeight f / 2) * 2
+  interleaved =
+      let l : bytesPerLine f a ≡ bytesPerLine f a / 2 * 2 = omega (arith, line-even) in
+      product (bytesPerLine f a) (heldHeight f / 2) (bytesPerLine f a / 2) l
+    where
+      product : (l j i : ℕ) → l ≡ i * 2 → l * j ≡ i * j * 2
+      product l j i p = rw p (mul-assoc i 2 j ∙ ap (λ (x : ℕ). i * x) (mul-comm 2 j) ∙ sym (mul-assoc i j 2))
+
+  cover : (x y z : Bool) (k : ℕ) → suc k ≡ length (planesBy x y z)
+      → cond (eqb k 0) 0 (cond (eqb k 1) (componentLength f a (getD (planesBy x y z) 0 Nothing)) (componentLength f a (getD (planesBy x y z) 0 Nothing) + componentLength f a (getD (planesBy x y z) 1 Nothing)))
+      + componentLength f a (getD (planesBy x y z) k Nothing)
+      ≡ cond (x || y || z) (bytesPerLine f a * heldHeight f + bytesPerLine f a * heldHeight f / 2) (bytesPerLine f a * heldHeight f)
+  unfolding planesBy componentLength
+  cover true y z k e = let q : k ≡ 2 = omega arith in rw q (omega (arith, quarter))
+  cover false true z k e = let q : k ≡ 2 = omega arith in rw q (omega (arith, quarter))
+  cover false false true k e = let q : k ≡ 1 = omega arith in rw q (omega (arith, quarter, interleaved))
+  cover false false false k e = let q : k ≡ 0 = omega arith in rw q (omega arith)
+
+  -- the last plane ends where the picture ends
+  pub planes-cover : (k : ℕ) → suc k ≡ planeCount (f .code) → planeStart f a k + planeLength f a k ≡ imageSize f a
+  unfolding planeStart planeLength componentOf planeCount planesOf imageSize firstPlane halfChroma planesBy
+  planes-cover k e = cover (eqb (f .code) YU12) (eqb (f .code) YV12) (eqb (f .code) NV12) k e
+
+-- each plane starts where the one before it ends, the first at 0
+pub first-plane-start : (f : Format) (a : ℕ) → planeStart f a 0 ≡ 0
+unfolding planeStart
+first-plane-start f a = refl
+
+pub next-plane-start : (f : Format) (a k : ℕ) → suc k < planeCount (f .code) → planeStart f a (suc k) ≡ planeStart f a k + planeLength f a k
+unfolding planeStart
+next-plane-start f a zero h = omega arith
+next-plane-start f a (suc zero) h = refl
+next-plane-start f a (suc (suc k)) h = absurd (omega (arith, plane-count-most (f .code)))
+
+-- ---- slots
+
+pub slot-least : (size : ℕ) → size ≤ slotSize size
+unfolding slotSize
+slot-least size = round-up-least size 4096 (omega arith)
+
+pub slot-most : (size : ℕ) → size ≤ 201326592 → slotSize size ≤ 201326592
+unfolding slotSize
+slot-most size h = round-up-nearest size 4096 49152 (omega arith) h
+
+-- a slot is whole pages
+pub slot-whole : (size : ℕ) → (k : ℕ) × (slotSize size ≡ k * 4096)
+unfolding slotSize
+slot-whole size = round-up-whole size 4096

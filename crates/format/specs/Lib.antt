@@ -1,0 +1,5 @@
+pub mod Code
+pub mod Size
+pub mod Planes
+pub mod Negotiation
+pub mod Answer

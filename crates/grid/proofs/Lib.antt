@@ -1,0 +1,5 @@
+pub mod Places
+pub mod Counts
+pub mod Sizes
+pub mod Values
+pub mod Figures
