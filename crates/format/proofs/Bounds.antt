@@ -9,9 +9,6 @@ use lib.Dec.{eqb, leb}
 use Rattle.format.specs.declared.Format.{Format}
 use Rattle.format.specs.Code.{RGB3, BGR3, YUYV, UYVY, RGBP, bytesPerPixel, halfChroma}
 use Rattle.format.specs.Size.{roundUp, bytesPerLine, heldHeight, firstPlane, imageSize, slotSize}
-use Rattle.format.specs.Planes.{componentLength}
-use Rattle.format.specs.declared.Component.{Component}
-use Rattle.format.specs.declared.Component.the-variants.{Nothing, Packed, Luma, Cb, Cr, CbCr}
 
 -- rounding up goes to a multiple, less than a step away
 pub round-up-whole : (x step : ℕ) → (k : ℕ) × (roundUp x step ≡ k * step)
@@ -85,13 +82,3 @@ image-fits f a = by (halfChroma (f .code))
 -- a line, or half of one, times a height
 pub product-fits : (x y : ℕ) → x ≤ 24639 → y ≤ 8192 → x * y < 4294967296
 product-fits x y hx hy = let p : x * y ≤ 24639 * 8192 = mul-le-mul hx hy in omega arith
-
--- no component is longer than the first plane can be
-pub component-fits : (f : Format) (a : ℕ) (c : Component) → componentLength f a c ≤ 201842688
-unfolding componentLength
-component-fits f a Nothing = omega arith
-component-fits f a Packed = mul-le-mul {n₂ = 24639} {m₂ = 8192} (line-fits f a) (height-fits f)
-component-fits f a Luma = mul-le-mul {n₂ = 24639} {m₂ = 8192} (line-fits f a) (height-fits f)
-component-fits f a Cb = mul-le-mul {n₂ = 24639} {m₂ = 8192} (omega (arith, line-fits f a)) (omega (arith, height-fits f))
-component-fits f a Cr = mul-le-mul {n₂ = 24639} {m₂ = 8192} (omega (arith, line-fits f a)) (omega (arith, height-fits f))
-component-fits f a CbCr = mul-le-mul {n₂ = 24639} {m₂ = 8192} (line-fits f a) (omega (arith, height-fits f))

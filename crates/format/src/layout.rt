@@ -6,7 +6,7 @@ ghost use Rattle.format.specs.Size.{roundUp, bytesPerLine, heldHeight, i
 use crate::Format;
 use crate::code;
 
-pub fn least(a: u32, b: u32) -> u32
+fn least(a: u32, b: u32) -> u32
     ensures { λ r. ⌜ r ≡ min a b ⌝ }
 {
     if a <= b { a } else { b }
@@ -32,7 +32,7 @@ pub fn bytes_per_line(f: Format, alignment: u32) -> u32
 }
 
 // The height, up to 8,192.
-pub fn height(f: Format) -> u32
+pub fn image_height(f: Format) -> u32
     ensures { λ r. ⌜ r ≡ heldHeight f ⌝ }
 {
     least(f.height, 8192)
@@ -42,7 +42,7 @@ pub fn height(f: Format) -> u32
 pub fn image_size(f: Format, alignment: u32) -> u32
     ensures { λ r. ⌜ r ≡ imageSize f alignment ⌝ }
 {
-    let n = bytes_per_line(f, alignment) * height(f);
+    let n = bytes_per_line(f, alignment) * image_height(f);
     if code::half_chroma(f.code) {
         n + n / 2
     } else {

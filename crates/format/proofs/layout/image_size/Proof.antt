@@ -9,15 +9,15 @@ use Rattle.format.proofs.layout.image_size.Statement.{statement}
 use Rattle.format.proofs.layout.image_size.Tie as tie
 
 -- the product is the first plane
-first : (c : tie.After-height) → c .before .bytes-per-line .result * c .height .result ≡ firstPlane (c .before .before .args .f) (c .before .before .args .alignment)
+first : (c : tie.After-image-height) → c .before .bytes-per-line .result * c .image-height .result ≡ firstPlane (c .before .before .args .f) (c .before .before .args .alignment)
 unfolding firstPlane
 first c = cc
 
 bytes-per-line-requires : tie.Need-bytes-per-line-requires
 bytes-per-line-requires c κs = search needs
 
-height-requires : tie.Need-height-requires
-height-requires c κs = search needs
+image-height-requires : tie.Need-image-height-requires
+image-height-requires c κs = search needs
 
 mul-n : tie.Need-mul-n
 mul-n c =
@@ -45,7 +45,7 @@ image-size-spec =
     tie.close
     (tie.spec
     bytes-per-line-requires
-    height-requires
+    image-height-requires
     mul-n
     half-chroma-requires
     add-result

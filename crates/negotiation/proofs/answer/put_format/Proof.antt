@@ -1,0 +1,81 @@
+-- The words over 204 zeros leave 168 of them; the whole is stored at once. Assumes nothing.
+use mathlib.Core.Path.{_≡_, refl, ap, _∙_}
+use mathlib.Core.List.{List, [], _∷_, _++_}
+use Prim.Native.Nat.{ℕ, _+_}
+use lib.ListN.{length, replicate}
+use lib.Seq.{sets}
+use denote.Ref.{now}
+use Rattle.wire.specs.Words.{bytesOf}
+use Rattle.wire.proofs.Stores.{over-zeros}
+use Rattle.wire.proofs.Words.{length-bytesOf}
+use Rattle.wire.specs.Words.{bytesOf, le32}
+use Rattle.negotiation.specs.Answer.{formatReply, pictureWords}
+use borrow.Author.Needs.{needs}
+use Rattle.negotiation.proofs.answer.put_format.Statement.{statement}
+use Rattle.negotiation.proofs.answer.put_format.Tie as tie
+
+-- nine words over 204 zeros
+filled : (a b c d e f g h i : ℕ) → let ws = a ∷ b ∷ c ∷ d ∷ e ∷ f ∷ g ∷ h ∷ i ∷ [] in sets (replicate 204 0) 0 (bytesOf ws) ≡ bytesOf ws ++ replicate 168 0
+filled a b c d e f g h i =
+    let ws : List ℕ = a ∷ b ∷ c ∷ d ∷ e ∷ f ∷ g ∷ h ∷ i ∷ [] in
+    over-zeros (bytesOf ws) 204 168 (rw (length-bytesOf ws))
+
+line-alignment-requires : tie.Need-line-alignment-requires
+line-alignment-requires c κs = search needs
+
+bytes-per-line-requires : tie.Need-bytes-per-line-requires
+bytes-per-line-requires c κs = search needs
+
+image-size-requires : tie.Need-image-size-requires
+image-size-requires c κs = search needs
+
+colour-space-requires : tie.Need-colour-space-requires
+colour-space-requires c κs = search needs
+
+slice-aggregate-put-words : tie.Need-slice-aggregate-put-words
+slice-aggregate-put-words c = search needs
+
+slice-aggregate-put-words-2 : tie.Need-slice-aggregate-put-words-2
+slice-aggregate-put-words-2 c = search needs
+
+put-words-requires : tie.Need-put-words-requires
+put-words-requires c κs = search needs
+
+slice-aggregate-put-bytes : tie.Need-slice-aggregate-put-bytes
+slice-aggregate-put-bytes c = search needs
+
+put-bytes-requires : tie.Need-put-bytes-requires
+put-bytes-requires c κs = search needs
+
+same-length : tie.Need-same-length
+same-length c = search needs
+
+returns : tie.Need-returns
+unfolding formatReply pictureWords
+returns c =
+    let p = c .before .before .before .before .before .before in
+    let o = p .before .before .before in
+    let s = o .before .before .before .before .before .before in
+    let f = s .args .f in
+    rw (
+      c .before .before .put-bytes .ensures,
+      p .put-words .ensures,
+      filled (s .args .kind) (f .width) (f .height) (f .code) 1 (o .before .before .bytes-per-line .result) (o .before .image-size .result) (o .colour-space .result) 0,
+    )
+    (cc)
+
+pub put-format-spec : {M : Type 1} → statement M
+put-format-spec =
+    tie.close
+    (tie.spec
+    line-alignment-requires
+    bytes-per-line-requires
+    image-size-requires
+    colour-space-requires
+    slice-aggregate-put-words
+    slice-aggregate-put-words-2
+    put-words-requires
+    slice-aggregate-put-bytes
+    put-bytes-requires
+    same-length
+    returns)

@@ -1,0 +1,28 @@
+// The answer to G_FMT, S_FMT and TRY_FMT.
+ghost use mathlib.Core.Path.{_≡_};
+ghost use lib.Seq.{sets};
+ghost use Rattle.negotiation.specs.Answer.{formatReply};
+use format::Format;
+
+// The 204 bytes stored in the argument: type, picture format, zeros.
+pub fn put_format(argument: &mut [u8], kind: u32, s: &[u8], f: Format)
+    ensures { λ _. ⌜ now (argument .exit) ≡ sets (now (argument .entry)) 0 (formatReply kind (now (s .entry)) f) ⌝ }
+{
+    let alignment = geometry::line_alignment(s);
+    let line = format::bytes_per_line(f, alignment);
+    let size = format::image_size(f, alignment);
+    let words = [
+        kind,
+        f.width,
+        f.height,
+        f.code,
+        1,
+        line,
+        size,
+        format::colour_space(f.code),
+        0,
+    ];
+    let mut b = [0u8; 204];
+    wire::put_words(&mut b, 0, &words);
+    wire::put_bytes(argument, 0, &b);
+}
