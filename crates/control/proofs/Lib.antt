@@ -1,1 +1,4 @@
 pub mod Search
+pub mod Found
+pub mod Opening
+pub mod Settings

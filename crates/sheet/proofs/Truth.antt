@@ -40,3 +40,16 @@ unfolding anyBelow
 any-at zero p e = absurd (false≢true e)
 any-at (suc n) p e =
     ⊎-elim (λ l. let r = any-at n p l in (r .0, omega (arith, r .1), r .2)) (λ l. (n, omega arith, l)) (either (anyBelow n p) (p n) e)
+
+pub any-of : (n : ℕ) (p : ℕ → Bool) (k : ℕ) → k < n → p k ≡ true → anyBelow n p ≡ true
+unfolding anyBelow
+any-of zero p k h e = absurd (not-suc-le-zero h)
+any-of (suc n) p k h e = by (ltb k n) refl (λ l. any-of n p k l e)
+  where
+    or-true : (a : Bool) → (a || true) ≡ true
+    or-true true = refl
+    or-true false = refl
+
+    by : (b : Bool) → ltb k n ≡ b → (k < n → anyBelow n p ≡ true) → (anyBelow n p || p n) ≡ true
+    by true l f = rw (f (ltb-true k n l))
+    by false l f = let q : k ≡ n = omega (arith, ltb-false k n l) in rw (← q, e) (or-true (anyBelow k p))
