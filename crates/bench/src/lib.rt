@@ -25,8 +25,11 @@ const SHEET: [u8; 324] = *b"\
     \xf6\xff\xff\xff\x0a\0\0\0\x04\0\0\0\xfe\xff\xff\xff\
     \0\0\0\0\0\0\0\0\0\0\0\0";
 
+// The sheet's bytes.
+pub type Bytes = [u8; 324];
+
 // The bytes of the sheet, which keeps every rule of a sheet.
-pub fn sheet() -> [u8; 324]
+pub fn sheet() -> Bytes
     ensures { λ r. ⌜ (r ≡ benchSheet) × (goodSheet benchSheet ≡ true) ⌝ }
 {
     SHEET

@@ -55,7 +55,7 @@ fn put_formats(buffer: &mut [u8], f: u8) {
 }
 
 // Four signed numbers from a place on: a rectangle, or the numbers of a control.
-pub fn put_four(buffer: &mut [u8], place: usize, a: i32, b: i32, c: i32, d: i32) {
+pub(crate) fn put_four(buffer: &mut [u8], place: usize, a: i32, b: i32, c: i32, d: i32) {
     let words = [
         wire::as_bits(a),
         wire::as_bits(b),
@@ -91,12 +91,12 @@ fn put_controls(buffer: &mut [u8], f: u8, c: u8) {
 }
 
 // How long a sheet with f formats and c controls is.
-pub fn length(f: u8, c: u8) -> usize {
+pub(crate) fn length(f: u8, c: u8) -> usize {
     control_at(f, c) as usize
 }
 
 // A good sheet with f formats and c controls, where these numbers are allowed; the answer is its length.
-pub fn build(buffer: &mut [u8], f: u8, c: u8) -> usize {
+pub(crate) fn build(buffer: &mut [u8], f: u8, c: u8) -> usize {
     put_contents(buffer, f, c);
     put_identity(buffer);
     put_formats(buffer, f);

@@ -70,7 +70,7 @@ fn lengths() {
     cut(b"31 bytes", 31);
 }
 
-pub fn cases() {
+pub(crate) fn cases() {
     offsets();
     counts();
     wrapping_counts();

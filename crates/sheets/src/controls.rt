@@ -66,7 +66,7 @@ fn kinds() {
     control(b"menu step 2", 3, 0, 4, 2, 0);
 }
 
-pub fn cases() {
+pub(crate) fn cases() {
     ids();
     words();
     last_control();

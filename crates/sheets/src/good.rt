@@ -83,7 +83,7 @@ fn grids() {
     control(b"default at the maximum", 1, -10, 10, 4, 10);
 }
 
-pub fn cases() {
+pub(crate) fn cases() {
     lengths();
     alignments();
     sizes();

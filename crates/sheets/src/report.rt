@@ -2,7 +2,7 @@
 use crate::build;
 
 // The line of a sheet: its name, and whether it is good.
-pub fn line(name: &[u8], good: bool) {
+pub(crate) fn line(name: &[u8], good: bool) {
     io::write_all(libc::STDOUT_FILENO, name);
     if good {
         io::write_all(libc::STDOUT_FILENO, b": good\n");
@@ -18,7 +18,7 @@ fn first_are_good(buffer: &mut [u8], f: u8, c: u8, n: usize) -> bool {
 }
 
 // A sheet with f formats and c controls as it was built, its length after its name.
-pub fn whole(name: &[u8], f: u8, c: u8) {
+pub(crate) fn whole(name: &[u8], f: u8, c: u8) {
     let n = build::length(f, c);
     let mut space = [0u8; 3000];
     let good = first_are_good(&mut space, f, c, n);
@@ -29,7 +29,7 @@ pub fn whole(name: &[u8], f: u8, c: u8) {
 }
 
 // The first n bytes of a sheet with two formats and two controls, which is 392 long, and of the zeros after it.
-pub fn cut(name: &[u8], n: usize) {
+pub(crate) fn cut(name: &[u8], n: usize) {
     let mut space = [0u8; 3000];
     line(name, first_are_good(&mut space, 2, 2, n));
 }
@@ -41,12 +41,12 @@ fn changed_is_good(buffer: &mut [u8], f: u8, c: u8, place: usize, word: u32) -> 
 }
 
 // A sheet with f formats and c controls, with one word changed.
-pub fn built(name: &[u8], f: u8, c: u8, place: usize, word: u32) {
+pub(crate) fn built(name: &[u8], f: u8, c: u8, place: usize, word: u32) {
     let mut space = [0u8; 3000];
     line(name, changed_is_good(&mut space, f, c, place, word));
 }
 
 // A sheet with two formats and two controls, with one word changed.
-pub fn changed(name: &[u8], place: usize, word: u32) {
+pub(crate) fn changed(name: &[u8], place: usize, word: u32) {
     built(name, 2, 2, place, word);
 }

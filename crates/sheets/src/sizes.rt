@@ -85,7 +85,7 @@ fn aspect() {
     changed(b"aspect denominator 0", at::DENOMINATOR, 0);
 }
 
-pub fn cases() {
+pub(crate) fn cases() {
     widths();
     heights();
     alignments();

@@ -51,7 +51,7 @@ fn descriptions() {
     );
 }
 
-pub fn cases() {
+pub(crate) fn cases() {
     identity();
     codes();
     descriptions();

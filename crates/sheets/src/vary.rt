@@ -10,7 +10,7 @@ fn range_is_good(buffer: &mut [u8], place: usize, least: u32, greatest: u32, ste
 }
 
 // The widths or the heights, by their place.
-pub fn range(name: &[u8], place: usize, least: u32, greatest: u32, step: u32) {
+pub(crate) fn range(name: &[u8], place: usize, least: u32, greatest: u32, step: u32) {
     let mut space = [0u8; 3000];
     line(
         name,
@@ -26,7 +26,7 @@ fn bounds_are_good(buffer: &mut [u8], left: i32, top: i32, width: i32, height: i
 }
 
 // The bounds, and the default rectangle equal to them.
-pub fn bounds(name: &[u8], left: i32, top: i32, width: i32, height: i32) {
+pub(crate) fn bounds(name: &[u8], left: i32, top: i32, width: i32, height: i32) {
     let mut space = [0u8; 3000];
     line(name, bounds_are_good(&mut space, left, top, width, height));
 }
@@ -38,7 +38,7 @@ fn default_is_good(buffer: &mut [u8], left: i32, top: i32, width: i32, height: i
 }
 
 // The default rectangle, in the bounds as they are built: from -8 to 632, and from 0 to 400.
-pub fn default(name: &[u8], left: i32, top: i32, width: i32, height: i32) {
+pub(crate) fn default(name: &[u8], left: i32, top: i32, width: i32, height: i32) {
     let mut space = [0u8; 3000];
     line(name, default_is_good(&mut space, left, top, width, height));
 }
@@ -58,7 +58,7 @@ fn control_is_good(
 }
 
 // Type, minimum, maximum, step and default of the first control.
-pub fn control(name: &[u8], kind: u32, minimum: i32, maximum: i32, step: i32, initial: i32) {
+pub(crate) fn control(name: &[u8], kind: u32, minimum: i32, maximum: i32, step: i32, initial: i32) {
     let mut space = [0u8; 3000];
     line(
         name,
