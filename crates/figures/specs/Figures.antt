@@ -1,0 +1,98 @@
+-- The figures of the bench: one table, each row computed from the bench sheet by the definitions that the contracts cite.
+use Prim.Native.Nat.{ℕ, _/_, min}
+use mathlib.Core.List.{List, [], _∷_}
+use lib.IntN.{ℤ, pos, negℤ}
+use lib.ListN.{getD, replicate}
+use Rattle.wire.specs.Signed.{signed, bits}
+use Rattle.geometry.specs.Geometry.{lineAlignment, cropBounds, cropDefault}
+use Rattle.geometry.specs.declared.Rect.{Rect}
+use Rattle.format.specs.declared.Format.{Format}
+use Rattle.format.specs.Code.{YUYV, YU12}
+use Rattle.format.specs.Size.{bytesPerLine, imageSize, slotSize}
+use Rattle.planes.specs.Planes.{planeStart}
+use Rattle.negotiation.specs.Negotiation.{negotiated}
+use Rattle.crop.specs.Crop.{clamped}
+use Rattle.control.specs.Values.{settingOf, storedValues}
+use Rattle.bench.specs.Bench.{benchSheet, benchMemory}
+
+-- what the definitions compute, and what the device is to say
+pub record Figure : Type 0 where
+  pub got : ℤ
+  pub expected : ℤ
+
+infix 70 _gives_
+abbrev _gives_ : ℤ → ℤ → Figure
+g gives e = record { got = g; expected = e }
+
+abbrev minus : ℕ → ℤ
+minus n = negℤ (pos n)
+
+-- ---- formats
+
+abbrev picture : ℕ → ℕ → ℕ → Format
+picture code width height = record { width = width; height = height; code = code }
+
+-- the width that is taken where this one is asked
+abbrev width : ℕ → ℤ
+width asked = pos (negotiated benchSheet (picture YUYV asked 224) .width)
+
+abbrev line : Format → ℤ
+line f = pos (bytesPerLine f (lineAlignment benchSheet))
+
+abbrev size : Format → ℕ
+size f = imageSize f (lineAlignment benchSheet)
+
+-- where plane k starts
+abbrev plane : Format → ℕ → ℤ
+plane f k = pos (planeStart f (lineAlignment benchSheet) k)
+
+-- how many buffers are granted: those asked for, up to 32, as far as the bench's memory holds their slots
+abbrev granted : ℕ → Format → ℤ
+granted asked f = pos (min (min asked 32) (benchMemory / slotSize (size f)))
+
+-- ---- crop
+
+-- the rectangle that is taken where this one is asked
+abbrev taken : Rect → Rect
+taken asked = clamped (cropBounds benchSheet) asked
+
+-- the default rectangle with another left and width
+abbrev across : ℤ → ℤ → Rect
+across left width = record { left = left; top = cropDefault benchSheet .top; width = width; height = cropDefault benchSheet .height }
+
+-- ---- controls
+
+-- the contrast after it is set to a value: the first of 32 zeros, with what the setting stores
+abbrev contrast : ℤ → ℤ
+contrast value = signed (getD (storedValues (replicate 32 0) (settingOf benchSheet 0x00980901 (bits value))) 0 0)
+
+-- ---- the table
+
+unfoldable pub figures : List Figure
+figures =
+    -- the nearest width, the smaller of two that are as near, the least and the greatest
+    width 300 gives pos 304
+    ∷ width 296 gives pos 288
+    ∷ width 0 gives pos 160
+    ∷ width 4294967295 gives pos 640
+    -- YUYV 304x224: bytes per line, image size, slot, buffers granted of ten
+    ∷ line (picture YUYV 304 224) gives pos 640
+    ∷ pos (size (picture YUYV 304 224)) gives pos 143360
+    ∷ pos (slotSize (size (picture YUYV 304 224))) gives pos 143360
+    ∷ granted 10 (picture YUYV 304 224) gives pos 7
+    -- YU12 304x224: bytes per line, image size, its three planes, slot, buffers granted of ten
+    ∷ line (picture YU12 304 224) gives pos 320
+    ∷ pos (size (picture YU12 304 224)) gives pos 107520
+    ∷ plane (picture YU12 304 224) 0 gives pos 0
+    ∷ plane (picture YU12 304 224) 1 gives pos 71680
+    ∷ plane (picture YU12 304 224) 2 gives pos 89600
+    ∷ pos (slotSize (size (picture YU12 304 224))) gives pos 110592
+    ∷ granted 10 (picture YU12 304 224) gives pos 9
+    -- crop: a left too far right, one too far left, no width
+    ∷ taken (across (pos 100) (pos 608)) .left gives pos 24
+    ∷ taken (across (minus 2147483648) (pos 608)) .left gives minus 8
+    ∷ taken (across (cropDefault benchSheet .left) (pos 0)) .width gives pos 1
+    -- contrast: the nearest value, the one nearer the minimum of two that are as near
+    ∷ contrast (minus 8) gives minus 10
+    ∷ contrast (pos 0) gives minus 2
+    ∷ []

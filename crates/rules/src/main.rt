@@ -1,0 +1,12 @@
+// Controls, sizes, crop and planes of the bench sheet: what each layer answers, a line to an answer.
+mod controls;
+mod frame;
+mod say;
+mod sizes;
+
+fn main() {
+    let s = bench::sheet();
+    controls::cases(&s);
+    sizes::cases(&s);
+    frame::cases(&s);
+}
