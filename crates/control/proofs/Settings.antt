@@ -1,15 +1,15 @@
 -- What setting a control stores: a value of its grid, none nearer. Assumes nothing.
 use Prim.Native.Nat.{ℕ, _≤_}
 use mathlib.Core.Path.{_≡_}
-use Rattle.wire.specs.Signed.{signed}
+use Rattle.wire.specs.Signed.{signed, distance}
 use Rattle.fields.specs.declared.Limits.{Limits}
 use Rattle.sheet.proofs.Facts.{Grid}
-use Rattle.grid.specs.Grid.{nearestValue, apartZ, valueAt}
+use Rattle.grid.specs.Grid.{nearestValue, valueAt}
 use Rattle.grid.proofs.Values.{value-on-grid, value-nearest}
 
 -- the value that is stored and shown, for any word asked: on the grid, and none of the grid is nearer
 pub stored-on-grid : (l : Limits) (g : Grid l) (w : ℕ) → (k : ℕ) × (k ≤ g .steps) × (nearestValue l (signed w) ≡ valueAt l k)
 stored-on-grid l g w = value-on-grid l (g .steps) (g .stride) (g .whole) (signed w)
 
-pub stored-nearest : (l : Limits) (g : Grid l) (w k : ℕ) → k ≤ g .steps → apartZ (nearestValue l (signed w)) (signed w) ≤ apartZ (valueAt l k) (signed w)
+pub stored-nearest : (l : Limits) (g : Grid l) (w k : ℕ) → k ≤ g .steps → distance (nearestValue l (signed w)) (signed w) ≤ distance (valueAt l k) (signed w)
 stored-nearest l g w k h = value-nearest l (g .steps) (g .stride) (g .whole) (signed w) k h

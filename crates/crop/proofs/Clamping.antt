@@ -5,11 +5,11 @@ use mathlib.Core.Bool.{Bool, true, false, cond, _&&_}
 use native.Mathlib.Omega.{arith}
 use lib.IntN.{ℤ}
 use lib.Signed.{leZ}
-use Rattle.wire.specs.Signed.{above}
-use Rattle.wire.proofs.Integers.{under}
+use Rattle.wire.specs.Signed.{above, distance}
+use Rattle.wire.proofs.Integers.{under, distance-counts}
 use Rattle.sheet.proofs.Truth.{both}
-use Rattle.crop.specs.Crop.{minZ, maxZ, clampZ, far, NearestOf}
-use Rattle.crop.proofs.Counts.{le-counts, gt-counts, counts-le, same-count, far-counts}
+use Rattle.crop.specs.Crop.{minZ, maxZ, clampZ, NearestOf}
+use Rattle.crop.proofs.Counts.{le-counts, gt-counts, counts-le, same-count}
 
 -- x is not below -k, and it is n above -k
 record Counted (k : ℕ) (x : ℤ) (n : ℕ) : Type 0 where
@@ -55,7 +55,7 @@ module _ (low high x : ℤ) where
 
   -- nothing there is nearer, and nothing else is as near
   near : (y : ℤ) → (leZ low y && leZ y high) ≡ true
-      → (far (clampZ low high x) x ≤ far y x) × (far y x ≤ far (clampZ low high x) x → y ≡ clampZ low high x)
+      → (distance (clampZ low high x) x ≤ distance y x) × (distance y x ≤ distance (clampZ low high x) x → y ≡ clampZ low high x)
   near y there =
       let k = under low + under high + under x + under y in
       let hl : under low ≤ k = omega arith in
@@ -66,8 +66,8 @@ module _ (low high x : ℤ) where
       let t = both (leZ low y) (leZ y high) there in
       let l = le-counts k low y hl hy (t .0) in
       let h = le-counts k y high hy hh (t .1) in
-      let d = far-counts k (clampZ low high x) x (c .held) hx in
-      let e = far-counts k y x hy hx in
+      let d = distance-counts k (clampZ low high x) x (c .held) hx in
+      let e = distance-counts k y x hy hx in
       (rw (d, e) (omega arith), λ g. let n = rw (d, e) at g in same-count k y (clampZ low high x) hy (c .held) (omega arith))
 
   -- a number goes to the nearest one from low to high

@@ -1,4 +1,4 @@
--- Signed numbers by their counts from -k, over the laws of wire: order and distance as facts of naturals, and back. Assumes nothing.
+-- Signed numbers by their counts from -k, over the laws of wire: order as a fact of naturals, and back. Assumes nothing.
 use Prim.Native.Nat.{ℕ, _+_, _-_, _≤_, _<_}
 use mathlib.Core.Path.{_≡_, refl, sym, ap, _∙_}
 use mathlib.Core.Bool.{Bool, true, false}
@@ -8,8 +8,7 @@ use lib.Dec.{leb}
 use lib.IntN.{ℤ, pos, negsuc, _+ℤ_, _-ℤ_, +ℤ-assoc, -ℤ-+ℤ-cancel}
 use lib.Signed.{leZ}
 use Rattle.wire.specs.Signed.{above}
-use Rattle.wire.proofs.Integers.{under, above-order, sums-order, gap}
-use Rattle.crop.specs.Crop.{far}
+use Rattle.wire.proofs.Integers.{under, above-order, sums-order}
 
 module _ (k : ℕ) (x y : ℤ) (hx : under x ≤ k) (hy : under y ≤ k) where
   -- a test of order, from the numbers to the counts and back
@@ -29,11 +28,6 @@ same-count k (pos a) (pos b) hx hy e = ap pos (omega arith)
 same-count k (pos a) (negsuc b) hx hy e = absurd (omega arith)
 same-count k (negsuc a) (pos b) hx hy e = absurd (omega arith)
 same-count k (negsuc a) (negsuc b) hx hy e = ap negsuc (omega arith)
-
--- the distance of two numbers is that of their counts
-pub far-counts : (k : ℕ) (x y : ℤ) → under x ≤ k → under y ≤ k → far x y ≡ (above k x - above k y) + (above k y - above k x)
-unfolding far
-far-counts k x y hx hy = rw (gap k x y hx hy, gap k y x hy hx)
 
 -- the same length added to both
 moved : (a b n : ℕ) → leb a b ≡ leb (a + n) (b + n)

@@ -1,10 +1,10 @@
 -- A crop rectangle brought inside its bounds: the sizes first, then the places for those sizes. Every number is taken, bad bounds too.
-use Prim.Native.Nat.{ℕ, _+_, _≤_}
+use Prim.Native.Nat.{_≤_}
 use mathlib.Core.Path.{_≡_}
 use mathlib.Core.Bool.{Bool, true, cond}
 use lib.IntN.{ℤ, pos, _+ℤ_, _-ℤ_}
 use lib.Signed.{leZ}
-use Rattle.wire.specs.Signed.{above}
+use Rattle.wire.specs.Signed.{distance}
 use Rattle.geometry.specs.declared.Rect.{Rect}
 
 -- the lesser of two numbers
@@ -49,12 +49,8 @@ clamped b a = record { left = leftIn b a; top = topIn b a; width = widthIn b a; 
 
 -- ---- nearest, for the laws
 
--- how far apart two numbers are: by how much the one is above the other, and the other above it; one of the two is 0
-unfoldable pub far : ℤ → ℤ → ℕ
-far x y = above 0 (x -ℤ y) + above 0 (y -ℤ x)
-
 -- p is the one nearest to x of the numbers that pass a test: it passes, none that passes is nearer, and no other is as near
 pub record NearestOf (test : ℤ → Bool) (x p : ℤ) : Type 0 where
   pub passes : test p ≡ true
-  pub least : (y : ℤ) → test y ≡ true → far p x ≤ far y x
-  pub alone : (y : ℤ) → test y ≡ true → far y x ≤ far p x → y ≡ p
+  pub least : (y : ℤ) → test y ≡ true → distance p x ≤ distance y x
+  pub alone : (y : ℤ) → test y ≡ true → distance y x ≤ distance p x → y ≡ p

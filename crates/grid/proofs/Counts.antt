@@ -5,11 +5,11 @@ use mathlib.Core.Bool.{true, false≢true}
 use native.Mathlib.Omega.{arith}
 use native.Mathlib.Nat.{add-zero}
 use borrow.Author.Tests.{leb-true, le-leb}
-use lib.IntN.{ℤ, pos, negsuc, negℤ, natAbs, _+ℤ_, _-ℤ_, negℤ-negℤ, negℤ-+ℤ, +ℤ-comm, +ℤ-idr}
+use lib.IntN.{ℤ, pos, negsuc, negℤ, _+ℤ_, _-ℤ_, +ℤ-idr}
 use lib.Signed.{leZ}
-use Rattle.wire.specs.Signed.{signed, above}
-use Rattle.wire.proofs.Integers.{under, above-order, above-sum, gap, signed-low, signed-high}
-use Rattle.grid.specs.Grid.{apart, apartZ}
+use Rattle.wire.specs.Signed.{signed, above, distance}
+use Rattle.wire.proofs.Integers.{under, above-order, above-sum, gap, distance-counts, signed-low, signed-high}
+use Rattle.grid.specs.Grid.{apart}
 
 -- the count of a number n further up
 pub above-up : (k : ℕ) (z : ℤ) (n : ℕ) → under z ≤ k → (above k (z +ℤ pos n) ≡ above k z + n) × (under (z +ℤ pos n) ≤ k)
@@ -42,27 +42,17 @@ unfolding above
 stride (pos n) e = omega (arith, leb-true 1 n e)
 stride (negsuc n) e = absurd (false≢true e)
 
--- a magnitude is what the number and its opposite have above zero
-magnitude : (z : ℤ) → natAbs z ≡ above 0 z + above 0 (negℤ z)
-unfolding above
-magnitude (pos zero) = refl
-magnitude (pos (suc n)) = omega arith
-magnitude (negsuc n) = omega arith
-
 -- the distance of two numbers is that of their counts
-pub apart-counts : (k : ℕ) (x y : ℤ) → under x ≤ k → under y ≤ k → apartZ x y ≡ apart (above k x) (above k y)
-unfolding apart apartZ
-apart-counts k x y h l = magnitude (x -ℤ y) ∙ rw (turned, gap k x y h l, gap k y x l h)
-  where
-    turned : negℤ (x -ℤ y) ≡ y -ℤ x
-    turned = negℤ-+ℤ x (negℤ y) ∙ rw (negℤ-negℤ y) (+ℤ-comm (negℤ x) y)
+pub apart-counts : (k : ℕ) (x y : ℤ) → under x ≤ k → under y ≤ k → distance x y ≡ apart (above k x) (above k y)
+unfolding apart
+apart-counts k x y h l = distance-counts k x y h l
 
 -- the distance of a number from one n further up than another, by the counts
-pub apart-up : (k : ℕ) (x y : ℤ) (n : ℕ) → under x ≤ k → under y ≤ k → apartZ (x +ℤ pos n) y ≡ apart (above k x + n) (above k y)
+pub apart-up : (k : ℕ) (x y : ℤ) (n : ℕ) → under x ≤ k → under y ≤ k → distance (x +ℤ pos n) y ≡ apart (above k x + n) (above k y)
 apart-up k x y n h l = let e = above-up k x n h in apart-counts k (x +ℤ pos n) y (e .1) l ∙ rw (e .0)
 
 -- the distance of a number from one n further up
-pub apart-from : (z : ℤ) (n : ℕ) → apartZ (z +ℤ pos n) z ≡ n
+pub apart-from : (z : ℤ) (n : ℕ) → distance (z +ℤ pos n) z ≡ n
 unfolding apart
 apart-from z n = apart-up (under z) z z n (omega arith) (omega arith) ∙ omega arith
 

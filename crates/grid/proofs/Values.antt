@@ -7,10 +7,10 @@ use native.Mathlib.Omega.{arith}
 use native.Mathlib.Nat.{mul-le-mul-right, mul-div-cancel, min-le-right, min-eq-left}
 use lib.IntN.{ℤ, pos, _+ℤ_, _-ℤ_, +ℤ-assoc}
 use lib.Signed.{leZ}
-use Rattle.wire.specs.Signed.{above}
+use Rattle.wire.specs.Signed.{above, distance}
 use Rattle.wire.proofs.Integers.{under, gap, reach}
 use Rattle.fields.specs.declared.Limits.{Limits}
-use Rattle.grid.specs.Grid.{nearestMultiple, nearestUpTo, nearestValue, apartZ, valueAt, walkValues}
+use Rattle.grid.specs.Grid.{nearestMultiple, nearestUpTo, nearestValue, valueAt, walkValues}
 use Rattle.grid.proofs.Places.{First, first-same, walked, multiple-kept, nearest}
 use Rattle.grid.proofs.Counts.{up-order, up-from, up-gap, stride, apart-up, apart-from}
 
@@ -49,7 +49,7 @@ module _ (l : Limits) (n : ℕ) (some : leZ (pos 1) (l .step) ≡ true) (whole :
   record Placed (v : ℤ) : Type 0 where
     times : ℕ
     is : nearestValue l v ≡ valueAt l times
-    first : First (λ k. apartZ (valueAt l k) v) n times
+    first : First (λ k. distance (valueAt l k) v) n times
 
   module _ (v : ℤ) where
     placed : Placed v
@@ -70,12 +70,12 @@ module _ (l : Limits) (n : ℕ) (some : leZ (pos 1) (l .step) ≡ true) (whole :
     value-on-grid = (placed .times, placed .first .within, placed .is)
 
     -- no value of the grid is nearer
-    pub value-nearest : (k : ℕ) → k ≤ n → apartZ (nearestValue l v) v ≤ apartZ (valueAt l k) v
+    pub value-nearest : (k : ℕ) → k ≤ n → distance (nearestValue l v) v ≤ distance (valueAt l k) v
     value-nearest k h = rw (placed .is) (placed .first .near k h)
 
     -- of two that are as near it is the one nearer the minimum
-    pub value-tie : (k : ℕ) → k ≤ n → apartZ (nearestValue l v) v ≡ apartZ (valueAt l k) v
-        → apartZ (nearestValue l v) (l .minimum) ≤ apartZ (valueAt l k) (l .minimum)
+    pub value-tie : (k : ℕ) → k ≤ n → distance (nearestValue l v) v ≡ distance (valueAt l k) v
+        → distance (nearestValue l v) (l .minimum) ≤ distance (valueAt l k) (l .minimum)
     value-tie k h e =
         rw (placed .is, apart-from (l .minimum) (placed .times * above 0 (l .step)), apart-from (l .minimum) (k * above 0 (l .step)))
         (mul-le-mul-right (above 0 (l .step)) (placed .first .tie k h (rw (placed .is) at e)))

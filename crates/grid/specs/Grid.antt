@@ -2,8 +2,8 @@
 use Prim.Native.Nat.{ℕ, zero, suc, _+_, _-_, _*_, _/_, min}
 use mathlib.Core.Bool.{cond}
 use lib.Dec.{ltb}
-use lib.IntN.{ℤ, pos, natAbs, _+ℤ_, _-ℤ_}
-use Rattle.wire.specs.Signed.{above}
+use lib.IntN.{ℤ, pos, _+ℤ_, _-ℤ_}
+use Rattle.wire.specs.Signed.{above, distance}
 use Rattle.geometry.specs.declared.Range.{Range}
 use Rattle.fields.specs.declared.Limits.{Limits}
 
@@ -32,9 +32,6 @@ unfoldable pub apart : ℕ → ℕ → ℕ
 apart a b = (a - b) + (b - a)
 
 -- the same of signed numbers
-unfoldable pub apartZ : ℤ → ℤ → ℕ
-apartZ x y = natAbs (x -ℤ y)
-
 -- goes through the places 0, 1, .. n, and leaves the one it holds only for one that is less far
 unfoldable pub walk : (ℕ → ℕ) → ℕ → ℕ
 walk far zero = 0
@@ -54,4 +51,4 @@ walkSizes r asked = sizeAt r (walk (λ k. apart (sizeAt r k) asked) ((r .greates
 
 -- the nearest value, found by a walk of the whole grid
 unfoldable pub walkValues : Limits → ℤ → ℤ
-walkValues l v = valueAt l (walk (λ k. apartZ (valueAt l k) v) (above 0 (l .maximum -ℤ l .minimum) / above 0 (l .step)))
+walkValues l v = valueAt l (walk (λ k. distance (valueAt l k) v) (above 0 (l .maximum -ℤ l .minimum) / above 0 (l .step)))

@@ -31,7 +31,7 @@ fn look_up(s: &[u8; 324], name: &[u8], id: u32) {
     }
 }
 
-pub fn cases(s: &[u8; 324]) {
+pub(crate) fn cases(s: &[u8; 324]) {
     set(s, b"contrast 11: ", CONTRAST, 11);
     set(s, b"contrast -8: ", CONTRAST, -8);
     set(s, b"contrast 0: ", CONTRAST, 0);

@@ -41,7 +41,7 @@ fn all(f: Format, alignment: u32, frame: &mut [u8]) {
     one(f, alignment, wire::part(frame, 0, 107519), 0, 0);
 }
 
-pub fn cases(s: &[u8; 324]) {
+pub(crate) fn cases(s: &[u8; 324]) {
     let f = Format {
         width: 304,
         height: 224,

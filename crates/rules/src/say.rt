@@ -1,17 +1,17 @@
 // Words and numbers on standard output.
 
-pub fn text(t: &[u8]) {
+pub(crate) fn text(t: &[u8]) {
     io::write_all(libc::STDOUT_FILENO, t);
 }
 
 // A text, and a number after it.
-pub fn number(t: &[u8], n: u32) {
+pub(crate) fn number(t: &[u8], n: u32) {
     text(t);
     io::print_decimal(libc::STDOUT_FILENO, n as u64);
 }
 
 // A text, and a signed number after it. A number below zero has its 32 bits from 2^31 on, and they are the number and 2^32.
-pub fn signed(t: &[u8], v: i32) {
+pub(crate) fn signed(t: &[u8], v: i32) {
     text(t);
     let bits = wire::as_bits(v);
     if bits < 0x8000_0000 {
@@ -22,7 +22,7 @@ pub fn signed(t: &[u8], v: i32) {
 }
 
 // The end of a line about something refused.
-pub fn refused(n: u32) {
+pub(crate) fn refused(n: u32) {
     number(b"refused with ", n);
     text(b"\n");
 }

@@ -39,7 +39,7 @@ fn cropped(s: &[u8; 324]) {
     say::text(b"\n");
 }
 
-pub fn cases(s: &[u8; 324]) {
+pub(crate) fn cases(s: &[u8; 324]) {
     negotiated(s);
     cropped(s);
 }
