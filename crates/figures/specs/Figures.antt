@@ -8,7 +8,8 @@ use Rattle.geometry.specs.Geometry.{lineAlignment, cropBounds, cropDefault}
 use Rattle.geometry.specs.declared.Rect.{Rect}
 use Rattle.format.specs.declared.Format.{Format}
 use Rattle.format.specs.Code.{YUYV, YU12}
-use Rattle.format.specs.Size.{bytesPerLine, imageSize, slotSize}
+use Rattle.format.specs.Size.{bytesPerLine, imageSize}
+use Rattle.buffers.specs.Slot.{slotSize}
 use Rattle.planes.specs.Planes.{planeStart}
 use Rattle.negotiation.specs.Negotiation.{negotiated}
 use Rattle.crop.specs.Crop.{clamped}

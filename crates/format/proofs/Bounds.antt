@@ -8,7 +8,7 @@ use borrow.Author.Tests.{leb-true, leb-false}
 use lib.Dec.{eqb, leb}
 use Rattle.format.specs.declared.Format.{Format}
 use Rattle.format.specs.Code.{RGB3, BGR3, YUYV, UYVY, RGBP, bytesPerPixel, halfChroma}
-use Rattle.format.specs.Size.{roundUp, bytesPerLine, heldHeight, firstPlane, imageSize, slotSize}
+use Rattle.format.specs.Size.{roundUp, bytesPerLine, heldHeight, firstPlane, imageSize}
 
 -- rounding up goes to a multiple, less than a step away
 pub round-up-whole : (x step : ℕ) → (k : ℕ) × (roundUp x step ≡ k * step)

@@ -13,7 +13,7 @@ use Rattle.sheet.proofs.Facts.{Alignment}
 use Rattle.sheet.proofs.Truth.{either}
 use Rattle.format.specs.declared.Format.{Format}
 use Rattle.format.specs.Code.{YU12, YV12, NV12, bytesPerPixel, halfChroma}
-use Rattle.format.specs.Size.{roundUp, bytesPerLine, heldHeight, firstPlane, imageSize, slotSize}
+use Rattle.format.specs.Size.{roundUp, bytesPerLine, heldHeight, firstPlane, imageSize}
 use Rattle.format.proofs.Bounds.{round-up-whole, round-up-least, round-up-nearest, pixel-some, pixel-most}
 
 -- sizes within 2..8192, an even height, and an alignment of a good sheet
@@ -95,18 +95,3 @@ module _ (f : Format) (a : ℕ) (ok : Allowed f a) where
       by false e =
           let l : bytesPerLine f a ≤ 24576 = omega (arith, line-most, pixel-most (f .code)) in
           let p : bytesPerLine f a * heldHeight f ≤ 24576 * 8192 = mul-le-mul l h in p
-
--- ---- slots
-
-pub slot-least : (size : ℕ) → size ≤ slotSize size
-unfolding slotSize
-slot-least size = round-up-least size 4096 (omega arith)
-
-pub slot-most : (size : ℕ) → size ≤ 201326592 → slotSize size ≤ 201326592
-unfolding slotSize
-slot-most size h = round-up-nearest size 4096 49152 (omega arith) h
-
--- a slot is whole pages
-pub slot-whole : (size : ℕ) → (k : ℕ) × (slotSize size ≡ k * 4096)
-unfolding slotSize
-slot-whole size = round-up-whole size 4096

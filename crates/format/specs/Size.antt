@@ -24,7 +24,3 @@ firstPlane f alignment = bytesPerLine f alignment * heldHeight f
 unfoldable pub imageSize : Format → ℕ → ℕ
 imageSize f alignment =
     cond (halfChroma (f .code)) (firstPlane f alignment + firstPlane f alignment / 2) (firstPlane f alignment)
-
--- an image size rounded up to 4096
-unfoldable pub slotSize : ℕ → ℕ
-slotSize size = roundUp size 4096

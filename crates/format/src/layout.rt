@@ -1,8 +1,8 @@
-// How large a picture is: bytes per line, image size, slot. Width and height count up to 8,192 and the alignment up to 64, as in
+// How large a picture is: bytes per line, image size. Width and height count up to 8,192 and the alignment up to 64, as in
 // every good sheet, so that no number here can pass 32 bits whatever is handed in.
 ghost use mathlib.Core.Path.{_≡_};
 ghost use Prim.Native.Nat.{min};
-ghost use Rattle.format.specs.Size.{roundUp, bytesPerLine, heldHeight, imageSize, slotSize};
+ghost use Rattle.format.specs.Size.{roundUp, bytesPerLine, heldHeight, imageSize};
 use crate::Format;
 use crate::code;
 
@@ -48,11 +48,4 @@ pub fn image_size(f: Format, alignment: u32) -> u32
     } else {
         n
     }
-}
-
-// Bytes from one buffer to the next: an image size rounded up to whole pages.
-pub fn slot_size(size: u32) -> u64
-    ensures { λ r. ⌜ r ≡ slotSize size ⌝ }
-{
-    round_up(size, 4096)
 }

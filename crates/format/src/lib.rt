@@ -17,7 +17,6 @@ pub use code::half_chroma;
 pub use layout::bytes_per_line;
 pub use layout::image_height;
 pub use layout::image_size;
-pub use layout::slot_size;
 
 // What S_FMT sets and the device keeps; the other numbers of a picture format follow from it.
 #[repr(C)]

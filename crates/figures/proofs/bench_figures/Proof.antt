@@ -6,7 +6,8 @@ use Rattle.fields.specs.Fields.{geometryAt, controlsAt, controlCount, controlAt
 use Rattle.geometry.specs.Geometry.{rangeAt, widthsOf, lineAlignment, rectAt, cropBounds, cropDefault}
 use Rattle.grid.specs.Grid.{nearestMultiple, nearestUpTo, nearestSize, nearestValue}
 use Rattle.format.specs.Code.{bytesPerPixel, halfChroma}
-use Rattle.format.specs.Size.{roundUp, bytesPerLine, heldHeight, firstPlane, imageSize, slotSize}
+use Rattle.format.specs.Size.{roundUp, bytesPerLine, heldHeight, firstPlane, imageSize}
+use Rattle.buffers.specs.Slot.{slotSize}
 use Rattle.planes.specs.Planes.{planesOf, componentOf, componentLength, planeLength, planeStart}
 use Rattle.negotiation.specs.Negotiation.{negotiated}
 use Rattle.crop.specs.Crop.{minZ, maxZ, clampZ, sizeIn, placeIn, widthIn, leftIn, clamped}

@@ -1,0 +1,71 @@
+-- What becomes of an arrival. The checks run in this order: memory length, streaming, run limit, damage, a buffer.
+use Prim.Native.Nat.{ℕ, _+_}
+use mathlib.Core.Bool.{Bool, cond, not, _&&_}
+use mathlib.Core.List.{List}
+use lib.Dec.{eqb, leb}
+use lib.Seq.{sets}
+use Rattle.ioctl.specs.declared.refusals.Refusal.the-variants.{MemoryLength, RunFull}
+use Rattle.buffers.specs.declared.Time.{Time}
+use Rattle.buffers.specs.Slot.{slotOffset}
+use Rattle.buffers.specs.Queues.{oldestIncoming, filledOldest}
+use Rattle.stream.specs.declared.Run.{Run}
+use Rattle.stream.specs.declared.Stream.{Stream}
+use Rattle.stream.specs.Stream.{oneMore, streaming, withQueues}
+use Rattle.arrival.specs.declared.Arrival.{Arrival}
+use Rattle.arrival.specs.declared.Arrival.the-variants.{Refused, Ignored, Damaged, Dropped, Stored}
+use Rattle.arrival.specs.declared.Arrived.{Arrived}
+
+-- how many arrivals a run can number
+abbrev pub runLimit : ℕ
+runLimit = 4294967295
+
+-- the same stream with another record
+abbrev pub withRun : Stream → Run → Stream
+withRun s r = record { length = s .length; streaming = s .streaming; run = r; queues = s .queues }
+
+-- one more arrival of the run is accepted
+abbrev pub countedRun : Run → Run
+countedRun r =
+    record { ran = r .ran; accepted = r .accepted + 1; handed = r .handed; damaged = r .damaged; dropped = r .dropped; discarded = r .discarded }
+
+-- one more was damaged
+abbrev pub damagedRun : Run → Run
+damagedRun r =
+    record { ran = r .ran; accepted = r .accepted; handed = r .handed; damaged = oneMore (r .damaged); dropped = r .dropped; discarded = r .discarded }
+
+-- one more was dropped
+abbrev pub droppedRun : Run → Run
+droppedRun r =
+    record { ran = r .ran; accepted = r .accepted; handed = r .handed; damaged = r .damaged; dropped = oneMore (r .dropped); discarded = r .discarded }
+
+-- an answer, and the stream after it
+abbrev pub answers : Arrival → Stream → Arrived
+answers a s = record { arrival = a; stream = s }
+
+-- a whole frame of n bytes, counted already: dropped if nothing is incoming, else stored in the oldest incoming buffer
+unfoldable pub placedOf : Stream → ℕ → ℕ → Time → Arrived
+placedOf s number n time =
+    cond (eqb (s .queues .queued) 0) (answers Dropped (withRun s (droppedRun (s .run))))
+    (answers (Stored (oldestIncoming (s .queues)) number) (withQueues s (filledOldest (s .queues) number n time)))
+
+-- an accepted arrival, counted already: damaged unless it is whole by the caller's rule and no longer than the frame size
+unfoldable pub acceptedOf : Stream → ℕ → ℕ → Bool → ℕ → Time → Arrived
+acceptedOf s number n whole size time =
+    cond (whole && leb n size) (placedOf s number n time) (answers Damaged (withRun s (damagedRun (s .run))))
+
+-- an arrival of n bytes with a memory of another length, outside a run, behind the run's last number; else its number is the
+-- count of those accepted before it
+unfoldable pub arrivalOf : Stream → ℕ → ℕ → Bool → ℕ → Time → Arrived
+arrivalOf s lent n whole size time =
+    cond (not (eqb lent (s .length))) (answers (Refused MemoryLength) s)
+    (cond (not (streaming s)) (answers Ignored s)
+    (cond (leb runLimit (s .run .accepted)) (answers (Refused RunFull) s)
+    (acceptedOf (withRun s (countedRun (s .run))) (s .run .accepted) n whole size time)))
+
+-- what is written: the frame at the start of the slot that it is stored in, nothing for any other answer
+abbrev pub writtenBy : Arrival → ℕ → List ℕ → List ℕ → List ℕ
+writtenBy (Refused why) size m f = m
+writtenBy Ignored size m f = m
+writtenBy Damaged size m f = m
+writtenBy Dropped size m f = m
+writtenBy (Stored k number) size m f = sets m (slotOffset k size) f

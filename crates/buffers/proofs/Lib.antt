@@ -1,0 +1,4 @@
+pub mod Moved
+pub mod Scan
+pub mod Slots
+pub mod Views

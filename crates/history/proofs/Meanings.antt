@@ -1,0 +1,85 @@
+-- The counts add up, and the verdict is which when.
+use mathlib.Core.Path.{_≡_, refl, sym, ap, _∙_, subst}
+use mathlib.Core.Bool.{Bool, true, false, cond, true≢false, false≢true}
+use Prim.Native.Nat.{ℕ, _+_, _≤_, _<_}
+use native.Mathlib.Omega.{arith}
+use borrow.Author.Tests.{eqb-true, eqb-false}
+use lib.Dec.{eqb}
+use mathlib.Core.List.{List, []}
+use lib.ListN.{length}
+use Rattle.stream.specs.declared.Run.{Run}
+use Rattle.stream.specs.Stream.{streaming}
+use Rattle.status.specs.Film.{verdictAfter, verdictOf}
+use Rattle.status.specs.declared.Verdict.{Verdict}
+use Rattle.status.specs.declared.Verdict.the-variants.{Running, Blank, Gaps, Complete}
+use Rattle.history.specs.Calls.{Call, World}
+use Rattle.history.specs.Paper.{Paper}
+use Rattle.history.specs.Claims.{_⇔_, paperAfter, worldAfter, AddsUp, AllHandedOver, Verdicts}
+use Rattle.history.proofs.Sound.{Sound}
+use Rattle.history.proofs.Tied.{Tied}
+use Rattle.history.proofs.Every.{Kept, kept}
+
+pub adds-up : AddsUp
+adds-up size m cs = let g : Kept (worldAfter size m cs) (paperAfter size m cs) = kept size m cs in (g .sound .adds, g .tied .run)
+
+-- the verdict by the paper
+abbrev toldVerdict : Paper → Verdict
+toldVerdict p = cond (p .running) Running (verdictAfter (p .run))
+
+verdict-told : (w : World) (p : Paper) → Kept w p → verdictOf (w .stream) ≡ toldVerdict p
+unfolding verdictOf
+verdict-told w p k =
+    ap (λ (b : Bool). cond b Running (verdictAfter (w .stream .run))) (k .tied .running) ∙ ap (λ (r : Run). cond (p .running) Running (verdictAfter r)) (k .tied .run)
+
+-- What a verdict means.
+abbrev Means : Paper → Verdict → Type 0
+Means p Running = p .running ≡ true
+Means p Blank = (p .running ≡ false) × (p .run .handed ≡ 0)
+Means p Gaps = (p .running ≡ false) × (0 < p .run .handed) × (p .run .handed < p .run .accepted)
+Means p Complete = AllHandedOver p
+
+-- the verdict means what it says
+means : (p : Paper) → Sound p → Means p (toldVerdict p)
+unfolding verdictAfter
+means p s = go (p .running) refl (eqb (p .run .ran) 0) refl (eqb (p .run .handed) 0) refl (eqb (p .run .handed) (p .run .accepted)) refl
+  where
+    go : (a : Bool) → p .running ≡ a → (b : Bool) → eqb (p .run .ran) 0 ≡ b → (c : Bool) → eqb (p .run .handed) 0 ≡ c
+        → (d : Bool) → eqb (p .run .handed) (p .run .accepted) ≡ d → Means p (cond a Running (cond b Blank (cond c Blank (cond d Complete Gaps))))
+    go true e b f c g d h = e
+    go false e true f c g d h = (e, s .never (eqb-true _ _ f))
+    go false e false f true g d h = (e, eqb-true _ _ g)
+    go false e false f false g true h =
+        (e, omega (arith, s .once, eqb-false (p .run .ran) 0 f), omega (arith, eqb-false (p .run .handed) 0 g, eqb-true (p .run .handed) (p .run .accepted) h),
+        omega (arith, s .adds, eqb-true (p .run .handed) (p .run .accepted) h), omega (arith, s .adds, eqb-true (p .run .handed) (p .run .accepted) h), eqb-true _ _ h)
+    go false e false f false g false h =
+        (e, omega (arith, eqb-false (p .run .handed) 0 g), omega (arith, s .adds, eqb-false (p .run .handed) (p .run .accepted) h))
+
+-- and no two verdicts mean the same
+only : (p : Paper) (v u : Verdict) → Means p v → Means p u → v ≡ u
+only p Running Running a b = refl
+only p Running Blank a b = absurd (true≢false (sym a ∙ b .0))
+only p Running Gaps a b = absurd (true≢false (sym a ∙ b .0))
+only p Running Complete a b = absurd (true≢false (sym a ∙ b .0))
+only p Blank Running a b = absurd (true≢false (sym b ∙ a .0))
+only p Blank Blank a b = refl
+only p Blank Gaps a b = absurd (omega (arith, a .1, b .1))
+only p Blank Complete a b = absurd (omega (arith, a .1, b .2, b .5))
+only p Gaps Running a b = absurd (true≢false (sym b ∙ a .0))
+only p Gaps Blank a b = absurd (omega (arith, b .1, a .1))
+only p Gaps Gaps a b = refl
+only p Gaps Complete a b = absurd (omega (arith, a .2, b .5))
+only p Complete Running a b = absurd (true≢false (sym b ∙ a .0))
+only p Complete Blank a b = absurd (omega (arith, b .1, a .2, a .5))
+only p Complete Gaps a b = absurd (omega (arith, b .2, a .5))
+only p Complete Complete a b = refl
+
+exactly : (w : World) (p : Paper) → Kept w p → (v : Verdict) → (verdictOf (w .stream) ≡ v) ⇔ Means p v
+exactly w p k v =
+    let e : verdictOf (w .stream) ≡ toldVerdict p = verdict-told w p k in
+    (λ h. subst (Means p) (sym e ∙ h) (means p (k .sound)), λ h. e ∙ only p (toldVerdict p) v (means p (k .sound)) h)
+
+pub verdicts-mean : Verdicts
+verdicts-mean size m cs =
+    let f : (v : Verdict) → (verdictOf (worldAfter size m cs .stream) ≡ v) ⇔ Means (paperAfter size m cs) v =
+        exactly (worldAfter size m cs) (paperAfter size m cs) (kept size m cs) in
+    (f Running, f Blank, f Gaps, f Complete)

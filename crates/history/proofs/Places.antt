@@ -1,0 +1,51 @@
+-- Every buffer is in exactly one place.
+use mathlib.Core.Path.{_≡_, refl, sym, ap, _∙_, subst}
+use mathlib.Core.Bool.{Bool, true, false, cond}
+use Prim.Native.Nat.{ℕ, _+_, _*_, _≤_, _<_}
+use native.Mathlib.Omega.{arith}
+use lib.Dec.{eqb}
+use mathlib.Core.List.{List, [], _∷_, _++_, map}
+use Rattle.buffers.specs.declared.Filled.{Filled}
+use Rattle.buffers.specs.Search.{any}
+use Rattle.buffers.specs.Queues.{ofBuffer, isIncoming, isOutgoing}
+use Rattle.status.specs.Buffer.{flagsOf}
+use Rattle.history.specs.Calls.{Call, World}
+use Rattle.history.specs.Paper.{Pair, Paper, indexOf}
+use Rattle.history.specs.Claims.{paperAfter, worldAfter, times, timesIn, timesOut, OnePlace}
+use Rattle.history.proofs.Lists.{NoDup, nodup-append, times-append, times-once, times-past, any-times}
+use Rattle.history.proofs.Sound.{Sound, line}
+use Rattle.history.proofs.Tied.{Tied, entry}
+use Rattle.history.proofs.Every.{Kept, kept}
+
+-- an entry of buffer k is found where its index stands
+any-entries : (k : ℕ) (o : List Pair) → any (ofBuffer k) (map entry o) ≡ any (λ x. eqb x k) (map indexOf o)
+unfolding any
+any-entries k [] = refl
+any-entries k (x ∷ o) = ap (λ (b : Bool). cond (eqb (x .index) k) true b) (any-entries k o)
+
+-- 4 if outgoing, 2 if incoming, where it is not both
+flags-count : (a b : Bool) (i o : ℕ) → cond a 1 0 ≡ o → cond b 1 0 ≡ i → o + i ≤ 1 → cond a 4 (cond b 2 0) ≡ 2 * i + 4 * o
+flags-count true true i o e f h = absurd (omega (arith, e, f))
+flags-count true false i o e f h = omega (arith, e, f)
+flags-count false true i o e f h = omega (arith, e, f)
+flags-count false false i o e f h = omega (arith, e, f)
+
+flags-told : (w : World) (p : Paper) (k : ℕ) → Kept w p → flagsOf (w .stream .queues) k ≡ 2 * timesIn p k + 4 * timesOut p k
+unfolding flagsOf isIncoming isOutgoing
+flags-told w p k g =
+    let (out-once, in-once) = nodup-append (map indexOf (p .outgoing)) (p .incoming) (g .sound .apart) in
+    let out : cond (isOutgoing (w .stream .queues) k) 1 0 ≡ timesOut p k =
+        ap (λ (l : List Filled). cond (any (ofBuffer k) l) 1 0) (g .tied .holds .outs)
+        ∙ ap (λ (b : Bool). cond b 1 0) (any-entries k (p .outgoing)) ∙ any-times k (map indexOf (p .outgoing)) out-once in
+    let in-it : cond (isIncoming (w .stream .queues) k) 1 0 ≡ timesIn p k =
+        ap (λ (l : List ℕ). cond (any (λ x. eqb x k) l) 1 0) (g .tied .holds .ins) ∙ any-times k (p .incoming) in-once in
+    flags-count (isOutgoing (w .stream .queues) k) (isIncoming (w .stream .queues) k) (timesIn p k) (timesOut p k) out in-it
+    (omega (arith, times-once k (line p) (g .sound .apart), times-append k (map indexOf (p .outgoing)) (p .incoming)))
+
+pub one-place : OnePlace
+one-place size m cs k =
+    let p : Paper = paperAfter size m cs in
+    let g : Kept (worldAfter size m cs) p = kept size m cs in
+    (omega (arith, times-once k (line p) (g .sound .apart), times-append k (map indexOf (p .outgoing)) (p .incoming)),
+    λ h. omega (arith, times-past k (p .granted) (line p) (g .sound .below) h, times-append k (map indexOf (p .outgoing)) (p .incoming)),
+    flags-told (worldAfter size m cs) p k g)

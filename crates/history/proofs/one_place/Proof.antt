@@ -1,0 +1,9 @@
+use Rattle.history.proofs.Places.{one-place}
+use Rattle.history.proofs.one_place.Statement.{statement}
+use Rattle.history.proofs.one_place.Tie as tie
+
+returns : tie.Need-returns
+returns c = one-place
+
+pub one-place-spec : {M : Type 1} → statement M
+one-place-spec = tie.close (tie.spec returns)

@@ -1,0 +1,9 @@
+use Rattle.history.proofs.InOrder.{stores}
+use Rattle.history.proofs.stored_in_order.Statement.{statement}
+use Rattle.history.proofs.stored_in_order.Tie as tie
+
+returns : tie.Need-returns
+returns c = stores
+
+pub stored-in-order-spec : {M : Type 1} → statement M
+stored-in-order-spec = tie.close (tie.spec returns)

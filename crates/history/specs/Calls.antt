@@ -1,0 +1,87 @@
+-- Calls on one stream and its memory: what each answers and leaves, by the definitions that the contracts cite.
+use Prim.Native.Nat.{ℕ}
+use mathlib.Core.Bool.{Bool, cond}
+use mathlib.Core.List.{List, [], _∷_}
+use lib.Dec.{eqb}
+use lib.ListN.{length}
+use Rattle.ioctl.specs.declared.refusals.Refusal.the-variants.{BuffersExist}
+use Rattle.buffers.specs.declared.Time.{Time}
+use Rattle.stream.specs.declared.Reply.{Reply}
+use Rattle.stream.specs.declared.Reply.the-variants.{Done, Refused}
+use Rattle.stream.specs.declared.Stream.{Stream}
+use Rattle.stream.specs.Stream.{freshStream}
+use Rattle.stream.specs.Calls.{requestOf, enqueueOf, dequeueOf, startOf, stopOf}
+use Rattle.arrival.specs.declared.Arrival.{Arrival}
+use Rattle.arrival.specs.declared.Arrived.{Arrived}
+use Rattle.arrival.specs.Arrivals.{arrivalOf, writtenBy}
+
+-- A call. A client asks for so many buffers, hands one in, takes one, starts, stops, or asks for another frame size; or a frame
+-- arrives: its bytes, its time, whether it is whole by the caller's rule, and what is lent if not the stream's memory.
+pub data Call : Type 0 where
+  request : ℕ → Call
+  enqueue : ℕ → Call
+  dequeue : Call
+  start : Call
+  stop : Call
+  resize : ℕ → Call
+  arrival : List ℕ → Time → Bool → List ℕ → Call
+
+-- What a call is answered.
+pub data Answer : Type 0 where
+  replied : Reply → Answer
+  arrived : Arrival → Answer
+
+-- A stream, the frame size in force, and the memory.
+pub record World : Type 0 where
+  pub stream : Stream
+  pub size : ℕ
+  pub memory : List ℕ
+
+-- as an opening makes it: any frame size, a memory holding anything
+abbrev pub opened : ℕ → List ℕ → World
+opened size m = record { stream = freshStream (length m); size = size; memory = m }
+
+-- an arrival is lent the memory as it was left, or something of another length
+abbrev pub lent : World → List ℕ → List ℕ
+lent w other = cond (eqb (length other) (length (w .memory))) (w .memory) other
+
+-- what an arrival answers and leaves
+abbrev pub arrives : World → List ℕ → Time → Bool → List ℕ → Arrived
+arrives w b t whole other = arrivalOf (w .stream) (length (lent w other)) (length b) whole (w .size) t
+
+-- the frame size can change only while no buffer exists
+abbrev pub sizeReply : ℕ → Reply
+sizeReply granted = cond (eqb granted 0) Done (Refused BuffersExist)
+
+-- what a call is answered
+abbrev pub answer : World → Call → Answer
+answer w (request n) = replied (requestOf (w .stream) n (w .size) .reply)
+answer w (enqueue k) = replied (enqueueOf (w .stream) k .reply)
+answer w dequeue = replied (dequeueOf (w .stream) .reply)
+answer w start = replied (startOf (w .stream) .reply)
+answer w stop = replied (stopOf (w .stream) .reply)
+answer w (resize n) = replied (sizeReply (w .stream .queues .granted))
+answer w (arrival b t whole other) = arrived (arrives w b t whole other .arrival)
+
+-- the same memory and frame size with another stream
+abbrev pub withStream : World → Stream → World
+withStream w s = record { stream = s; size = w .size; memory = w .memory }
+
+-- what a call leaves
+abbrev pub next : World → Call → World
+next w (request n) = withStream w (requestOf (w .stream) n (w .size) .stream)
+next w (enqueue k) = withStream w (enqueueOf (w .stream) k .stream)
+next w dequeue = withStream w (dequeueOf (w .stream) .stream)
+next w start = withStream w (startOf (w .stream) .stream)
+next w stop = withStream w (stopOf (w .stream) .stream)
+next w (resize n) = record { stream = w .stream; size = cond (eqb (w .stream .queues .granted) 0) n (w .size); memory = w .memory }
+next w (arrival b t whole other) =
+    record {
+      stream = arrives w b t whole other .stream;
+      size = w .size;
+      memory = cond (eqb (length other) (length (w .memory))) (writtenBy (arrives w b t whole other .arrival) (w .size) (w .memory) b) (w .memory) }
+
+-- what a list of calls leaves
+abbrev pub after : World → List Call → World
+after w [] = w
+after w (c ∷ cs) = after (next w c) cs

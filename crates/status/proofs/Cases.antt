@@ -1,0 +1,31 @@
+-- What the definitions of specs/ say in each case.
+use mathlib.Core.Path.{_≡_}
+use mathlib.Core.Bool.{true, false}
+use Prim.Native.Nat.{ℕ, _<_}
+use borrow.Author.Tests.{lt-leb}
+use Rattle.buffers.specs.declared.Filled.{Filled}
+use Rattle.buffers.specs.declared.Queues.{Queues}
+use Rattle.buffers.specs.Queues.{isIncoming, isOutgoing, entryOf}
+use Rattle.stream.specs.declared.Stream.{Stream}
+use Rattle.status.specs.declared.Status.{Status}
+use Rattle.status.specs.declared.Queried.the-variants.{Buffer}
+use Rattle.status.specs.Buffer.{flagsOf, describedOf, queryOf}
+
+module _ (q : Queues) (k : ℕ) where
+  pub flags-outgoing : isOutgoing q k ≡ true → 4 ≡ flagsOf q k
+  unfolding flagsOf
+  flags-outgoing h = simp h
+
+  pub flags-incoming : isOutgoing q k ≡ false → isIncoming q k ≡ true → 2 ≡ flagsOf q k
+  unfolding flagsOf
+  flags-incoming g h = simp (g, h)
+
+  pub flags-dequeued : isOutgoing q k ≡ false → isIncoming q k ≡ false → 0 ≡ flagsOf q k
+  unfolding flagsOf
+  flags-dequeued g h = simp (g, h)
+
+-- of a buffer that is there, by its flags, its entry and what describes them
+pub query-there : (s : Stream) (k size : ℕ) → k < s .queues .granted → (flags : ℕ) → flags ≡ flagsOf (s .queues) k
+    → (entry : Filled) → entry ≡ entryOf (s .queues) k → (status : Status) → status ≡ describedOf k flags entry size → Buffer status ≡ queryOf s k size
+unfolding queryOf
+query-there s k size h flags f entry e status d = simp (lt-leb _ _ h, d, f, e)

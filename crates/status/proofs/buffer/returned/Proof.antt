@@ -1,0 +1,15 @@
+-- What `described` promises. Assumes nothing.
+use borrow.Author.Needs.{needs}
+use Rattle.status.specs.Buffer.{returnedOf}
+use Rattle.status.proofs.buffer.returned.Statement.{statement}
+use Rattle.status.proofs.buffer.returned.Tie as tie
+
+described-requires : tie.Need-described-requires
+described-requires c κs = search needs
+
+returns : tie.Need-returns
+unfolding returnedOf
+returns c = c .described .ensures
+
+pub returned-spec : {M : Type 1} → statement M
+returned-spec = tie.close (tie.spec described-requires returns)
