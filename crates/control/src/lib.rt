@@ -2,9 +2,11 @@
 mod find;
 mod values;
 
+pub use find::count;
 pub use find::place;
 pub use find::queried;
 use ioctl::Refusal;
+pub use values::Values;
 pub use values::at_opening;
 pub use values::read;
 pub use values::set;

@@ -10,6 +10,7 @@ use Rattle.format.specs.declared.Format.{Format}
 use Rattle.format.specs.Code.{YUYV, YU12}
 use Rattle.format.specs.Size.{bytesPerLine, imageSize}
 use Rattle.buffers.specs.Slot.{slotSize}
+use Rattle.stream.specs.Calls.{grantOf}
 use Rattle.planes.specs.Planes.{planeStart}
 use Rattle.negotiation.specs.Negotiation.{negotiated}
 use Rattle.crop.specs.Crop.{clamped}
@@ -47,9 +48,9 @@ size f = imageSize f (lineAlignment benchSheet)
 abbrev plane : Format → ℕ → ℤ
 plane f k = pos (planeStart f (lineAlignment benchSheet) k)
 
--- how many buffers are granted: those asked for, up to 32, as far as the bench's memory holds their slots
-abbrev granted : ℕ → Format → ℤ
-granted asked f = pos (min (min asked 32) (benchMemory / slotSize (size f)))
+-- how many buffers are granted of those asked for, in the bench's memory
+abbrev pub granted : ℕ → Format → ℤ
+granted asked f = pos (grantOf benchMemory asked (size f))
 
 -- ---- crop
 

@@ -15,7 +15,7 @@ use Rattle.stream.specs.Calls.{requestOf, enqueueOf, dequeueOf, startOf, stopOf
 use Rattle.arrival.specs.declared.Arrival.{Arrival as ArrivalAnswer}
 use Rattle.arrival.specs.declared.Arrival.the-variants as arrivals
 use Rattle.history.specs.Calls.{Call, Answer, World, opened, arrives, sizeReply, answer, next, after}
-use Rattle.history.specs.Calls.Call.{request, enqueue, dequeue, start, stop, resize, arrival}
+use Rattle.history.specs.Calls.Call.{request, enqueue, dequeue, start, stop, resize, arrival, other}
 use Rattle.history.specs.Calls.Answer.{replied, arrived}
 use Rattle.history.specs.Paper.{Frame, Pair, Paper, Event, blank, refusedReply, refusedArrival, grantIn, repliedTold, arrivedTold, told, frameOf, filled, step, noted, events, wholes, dequeues, Calm}
 use Rattle.history.specs.Paper.Event.{put, whole, damaged, handed, begun, ended, sized, idle}
@@ -29,12 +29,12 @@ use Rattle.history.proofs.Order.{At, Leaves, pairOf, comes-first, leave
 -- ---- at one moment
 
 -- the first incoming buffer is k: a whole arrival is stored there
-stored-now : (w : World) (p : Paper) (k : ℕ) (r : List ℕ) (b : List ℕ) (t : Time) (fl : Bool) (other : List ℕ) → Kept w p → p .incoming ≡ k ∷ r
-    → told p (arrival b t fl other) (answer w (arrival b t fl other)) ≡ whole b t
-    → (answer w (arrival b t fl other) ≡ arrived (arrivals.Stored k (p .run .accepted)))
-    × (slotBytes (next w (arrival b t fl other)) k (length b) ≡ b)
-stored-now w p k r b t fl other g e h =
-    let c : Call = arrival b t fl other in
+stored-now : (w : World) (p : Paper) (k : ℕ) (r : List ℕ) (b : List ℕ) (t : Time) (fl : Bool) (lends : List ℕ) → Kept w p → p .incoming ≡ k ∷ r
+    → told p (arrival b t fl lends) (answer w (arrival b t fl lends)) ≡ whole b t
+    → (answer w (arrival b t fl lends) ≡ arrived (arrivals.Stored k (p .run .accepted)))
+    × (slotBytes (next w (arrival b t fl lends)) k (length b) ≡ b)
+stored-now w p k r b t fl lends g e h =
+    let c : Call = arrival b t fl lends in
     let a : answer w c ≡ arrived (placedAs (p .incoming) (p .run .accepted)) = subst (λ (v : Event). Answers p v (answer w c)) h (foretold-next w p c g) in
     let n : Tied (next w c) (step p (whole b t)) = subst (λ (v : Event). Tied (next w c) (step p v)) h (kept-next w p c g .tied) in
     let m : List ℕ = next w c .memory in
@@ -56,14 +56,14 @@ returned-now w p x r f g e h =
 
 -- ---- from the moment that k is handed in
 
-stores-at : (w : World) (p : Paper) (k : ℕ) (mid : List Call) (b : List ℕ) (t : Time) (fl : Bool) (other : List ℕ) → Kept w (step p (put k))
+stores-at : (w : World) (p : Paper) (k : ℕ) (mid : List Call) (b : List ℕ) (t : Time) (fl : Bool) (lends : List ℕ) → Kept w (step p (put k))
     → Calm (events w (step p (put k)) mid) → wholes (events w (step p (put k)) mid) ≡ length (p .incoming)
-    → told (noted (step p (put k)) (events w (step p (put k)) mid)) (arrival b t fl other) (answer (after w mid) (arrival b t fl other)) ≡ whole b t
-    → (answer (after w mid) (arrival b t fl other) ≡ arrived (arrivals.Stored k (noted (step p (put k)) (events w (step p (put k)) mid) .run .accepted)))
-    × (slotBytes (next (after w mid) (arrival b t fl other)) k (length b) ≡ b)
-stores-at w p k mid b t fl other g c n h =
+    → told (noted (step p (put k)) (events w (step p (put k)) mid)) (arrival b t fl lends) (answer (after w mid) (arrival b t fl lends)) ≡ whole b t
+    → (answer (after w mid) (arrival b t fl lends) ≡ arrived (arrivals.Stored k (noted (step p (put k)) (events w (step p (put k)) mid) .run .accepted)))
+    × (slotBytes (next (after w mid) (arrival b t fl lends)) k (length b) ≡ b)
+stores-at w p k mid b t fl lends g c n h =
     let (r, e) = comes-first p k (events w (step p (put k)) mid) c n in
-    stored-now (after w mid) (noted (step p (put k)) (events w (step p (put k)) mid)) k r b t fl other (kept-after mid w (step p (put k)) g) e h
+    stored-now (after w mid) (noted (step p (put k)) (events w (step p (put k)) mid)) k r b t fl lends (kept-after mid w (step p (put k)) g) e h
 
 -- a list of calls, cut where its events are cut
 record Cut (w : World) (p : Paper) (cs : List Call) (front : List Event) (e : Event) : Type 0 where
@@ -90,8 +90,8 @@ cut (c ∷ cs) w p (f ∷ front) e back h = go (cut cs (next w c) (step p (told 
 -- A call that tells of a whole arrival is one.
 record IsArrival (c : Call) (b : List ℕ) (t : Time) : Type 0 where
   flag : Bool
-  other : List ℕ
-  is : c ≡ arrival b t flag other
+  lends : List ℕ
+  is : c ≡ arrival b t flag lends
 
 -- whether an event is a whole arrival
 abbrev isWhole : Event → Bool
@@ -121,11 +121,12 @@ whole-call w p start b t h =
     (elim (p .running) as (λ x. isWhole (cond x idle begun) ≡ false) [ true ↦ refl | false ↦ refl ]) h
 whole-call w p stop b t h = unless (refusedReply (stopOf (w .stream) .reply)) (ended (p .granted)) b t refl h
 whole-call w p (resize n) b t h = unless (refusedReply (sizeReply (w .stream .queues .granted))) (sized n) b t refl h
-whole-call w p (arrival d u fl other) b t h = go (refusedArrival (arrives w d u fl other .arrival)) (p .running) (fl && leb (length d) (p .size)) h
+whole-call w p other b t h = never idle b t refl h
+whole-call w p (arrival d u fl lends) b t h = go (refusedArrival (arrives w d u fl lends .arrival)) (p .running) (fl && leb (length d) (p .size)) h
   where
-    go : (z x y : Bool) → cond z idle (cond x (cond y (whole d u) damaged) idle) ≡ whole b t → IsArrival (arrival d u fl other) b t
+    go : (z x y : Bool) → cond z idle (cond x (cond y (whole d u) damaged) idle) ≡ whole b t → IsArrival (arrival d u fl lends) b t
     go true x y e = never idle b t refl e
-    go false true true e = record { flag = fl; other = other; is = cc e }
+    go false true true e = record { flag = fl; lends = lends; is = cc e }
     go false true false e = never damaged b t refl e
     go false false y e = never idle b t refl e
 
@@ -134,7 +135,7 @@ arrival-of w p cs n a c = go (whole-call (after w (c .fore)) (noted p (events w 
   where
     go : IsArrival (c .call) (a .bytes) (a .time) → Arrival w p cs n
     go i = record {
-        front = c .fore; bytes = a .bytes; time = a .time; flag = i .flag; other = i .other; back = c .aft;
+        front = c .fore; bytes = a .bytes; time = a .time; flag = i .flag; lends = i .lends; back = c .aft;
         is = rw (i .is) at (c .is);
         accepted = rw (i .is) at (c .tells-call);
         place = ap wholes (c .tells-front) ∙ a .place }
@@ -201,9 +202,9 @@ module _ (size : ℕ) (m : List ℕ) (before : List Call) (k : ℕ) where
   paper-mid mid = ap (paperAfter size m) (split mid) ∙ paper-append (before ++ enqueue k ∷ []) mid (opened size m) (blank size)
 
 pub stores : Stores
-stores size m before k mid b t fl other (h, c) n e =
+stores size m before k mid b t fl lends (h, c) n e =
     rw (world-mid size m before k mid, paper-mid size m before k mid, paper-in size m before k h)
-    (stores-at (worldAfter size m (before ++ enqueue k ∷ [])) (paperAfter size m before) k mid b t fl other (kept-in size m before k h)
+    (stores-at (worldAfter size m (before ++ enqueue k ∷ [])) (paperAfter size m before) k mid b t fl lends (kept-in size m before k h)
       (rw (paper-in size m before k h) at c) (rw (paper-in size m before k h) at n)
       (rw (world-mid size m before k mid, paper-mid size m before k mid, paper-in size m before k h) at e))
 

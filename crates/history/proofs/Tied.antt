@@ -35,7 +35,7 @@ use Rattle.arrival.specs.declared.Arrival.the-variants as arrivals
 use Rattle.arrival.specs.declared.Arrived.{Arrived}
 use Rattle.arrival.specs.Arrivals.{runLimit, withRun, countedRun, damagedRun, droppedRun, answers as arrives-as, placedOf, acceptedOf, arrivalOf, writtenBy}
 use Rattle.history.specs.Calls.{Call, Answer, World, opened, lent, arrives, sizeReply, answer, withStream, next}
-use Rattle.history.specs.Calls.Call.{request, enqueue, dequeue, start, stop, resize, arrival}
+use Rattle.history.specs.Calls.Call.{request, enqueue, dequeue, start, stop, resize, arrival, other}
 use Rattle.history.specs.Calls.Answer.{replied, arrived}
 use Rattle.history.specs.Paper.{Frame, Pair, Paper, Event, indexOf, blank, refusedReply, refusedArrival, grantIn, arrivedWhole, told, frameOf, rest, filled, drops, count, step}
 use Rattle.history.specs.Paper.Event.{put, whole, damaged, handed, begun, ended, sized, idle}
@@ -339,22 +339,22 @@ accepted-told p b t fl v on e = ap (λ (x : Bool). cond x (arrivedWhole p b t fl
 
 -- what comes of an answer to an arrival with the memory lent
 abbrev Comes : World → Paper → List ℕ → Time → Bool → List ℕ → Arrived → Type 0
-Comes w p b t fl other r =
-    Follows (record { stream = r .stream; size = w .size; memory = writtenBy (r .arrival) (w .size) (w .memory) b }) p (arrival b t fl other) (arrived (r .arrival))
+Comes w p b t fl lends r =
+    Follows (record { stream = r .stream; size = w .size; memory = writtenBy (r .arrival) (w .size) (w .memory) b }) p (arrival b t fl lends) (arrived (r .arrival))
 
-comes-placed : (w : World) (size granted : ℕ) (on : Bool) (r : Run) (i : List ℕ) (o : List Pair) (b : List ℕ) (t : Time) (fl : Bool) (other : List ℕ)
+comes-placed : (w : World) (size granted : ℕ) (on : Bool) (r : Run) (i : List ℕ) (o : List Pair) (b : List ℕ) (t : Time) (fl : Bool) (lends : List ℕ)
     → Tied w (paper size granted on r i o) → Sound (paper size granted on r i o) → Fits (paper size granted on r i o) (whole b t)
     → cond on (arrivedWhole (paper size granted on r i o) b t fl) idle ≡ whole b t
-    → Comes w (paper size granted on r i o) b t fl other (placedOf (withRun (w .stream) (countedRun (w .stream .run))) (w .stream .run .accepted) (length b) t)
+    → Comes w (paper size granted on r i o) b t fl lends (placedOf (withRun (w .stream) (countedRun (w .stream .run))) (w .stream .run .accepted) (length b) t)
 unfolding placedOf
-comes-placed w size granted on r i o b t fl other x s f e = go i (eqb (w .stream .queues .queued) 0) refl x s f e
+comes-placed w size granted on r i o b t fl lends x s f e = go i (eqb (w .stream .queues .queued) 0) refl x s f e
   where
     z : Bool → Arrived
     z v = cond v (arrives-as arrivals.Dropped (withRun (w .stream) (droppedRun (countedRun (w .stream .run)))))
         (arrives-as (arrivals.Stored (oldestIncoming (w .stream .queues)) (w .stream .run .accepted)) (storedStream w b t))
     go : (i : List ℕ) (v : Bool) → eqb (w .stream .queues .queued) 0 ≡ v
         → Tied w (paper size granted on r i o) → Sound (paper size granted on r i o) → Fits (paper size granted on r i o) (whole b t)
-        → cond on (arrivedWhole (paper size granted on r i o) b t fl) idle ≡ whole b t → Comes w (paper size granted on r i o) b t fl other (z v)
+        → cond on (arrivedWhole (paper size granted on r i o) b t fl) idle ≡ whole b t → Comes w (paper size granted on r i o) b t fl lends (z v)
     go [] true g x s f e = record { event = whole b t; tells = e; fits = f; foretold = refl; tied = record {
         size = x .size; running = x .running; run = dropped-run (w .stream .run) r (x .run) (omega (arith, s .adds, s .limit));
         noted = x .noted; holds = x .holds; fits = x .fits; held = x .held } }
@@ -370,59 +370,59 @@ comes-placed w size granted on r i o b t fl other x s f e = go i (eqb (w .stream
           tied = subst (λ (m : List ℕ). Tied (record { stream = storedStream w b t; size = w .size; memory = m }) (step (paper size granted on r (k ∷ i) o) (whole b t))) slot
             (tied-stored w size granted on r k i o b t x s (f .2)) }
 
-comes-accepted : (w : World) (p : Paper) (b : List ℕ) (t : Time) (fl : Bool) (other : List ℕ) → Tied w p → Sound p → p .running ≡ true → p .run .accepted < runLimit
-    → Comes w p b t fl other (acceptedOf (withRun (w .stream) (countedRun (w .stream .run))) (w .stream .run .accepted) (length b) fl (w .size) t)
+comes-accepted : (w : World) (p : Paper) (b : List ℕ) (t : Time) (fl : Bool) (lends : List ℕ) → Tied w p → Sound p → p .running ≡ true → p .run .accepted < runLimit
+    → Comes w p b t fl lends (acceptedOf (withRun (w .stream) (countedRun (w .stream .run))) (w .stream .run .accepted) (length b) fl (w .size) t)
 unfolding acceptedOf
-comes-accepted w p b t fl other x s on l = go (fl && leb (length b) (w .size)) refl
+comes-accepted w p b t fl lends x s on l = go (fl && leb (length b) (w .size)) refl
   where
     z : Bool → Arrived
     z v = cond v (placedOf (withRun (w .stream) (countedRun (w .stream .run))) (w .stream .run .accepted) (length b) t)
         (arrives-as arrivals.Damaged (withRun (w .stream) (damagedRun (countedRun (w .stream .run)))))
     tell : (v : Bool) → (fl && leb (length b) (w .size)) ≡ v → cond (p .running) (arrivedWhole p b t fl) idle ≡ cond v (whole b t) damaged
     tell v e = accepted-told p b t fl v on (ap (λ (n : ℕ). fl && leb (length b) n) (sym (x .size)) ∙ e)
-    go : (v : Bool) → (fl && leb (length b) (w .size)) ≡ v → Comes w p b t fl other (z v)
+    go : (v : Bool) → (fl && leb (length b) (w .size)) ≡ v → Comes w p b t fl lends (z v)
     go true e =
         let short : length b ≤ p .size = omega (arith, x .size, leb-true (length b) (w .size) (and-true fl (leb (length b) (w .size)) e .1)) in
-        comes-placed w (p .size) (p .granted) (p .running) (p .run) (p .incoming) (p .outgoing) b t fl other x s (on, l, short) (tell true e)
+        comes-placed w (p .size) (p .granted) (p .running) (p .run) (p .incoming) (p .outgoing) b t fl lends x s (on, l, short) (tell true e)
     go false e = record { event = damaged; tells = tell false e; fits = (on, l); foretold = tt; tied = record {
         size = x .size; running = x .running; run = damaged-run (w .stream .run) (p .run) (x .run) (omega (arith, s .adds, s .limit));
         noted = x .noted; holds = x .holds; fits = x .fits; held = x .held } }
 
 -- with the memory lent
-comes-lent : (w : World) (p : Paper) (b : List ℕ) (t : Time) (fl : Bool) (other : List ℕ) → Tied w p → Sound p
-    → Comes w p b t fl other (arrivalOf (w .stream) (length (w .memory)) (length b) fl (w .size) t)
+comes-lent : (w : World) (p : Paper) (b : List ℕ) (t : Time) (fl : Bool) (lends : List ℕ) → Tied w p → Sound p
+    → Comes w p b t fl lends (arrivalOf (w .stream) (length (w .memory)) (length b) fl (w .size) t)
 unfolding arrivalOf
-comes-lent w p b t fl other x s =
+comes-lent w p b t fl lends x s =
     go (eqb (length (w .memory)) (w .stream .length)) (eq-eqb _ _ (sym (x .noted))) (streaming (w .stream)) refl (leb runLimit (w .stream .run .accepted)) refl
   where
     z : Bool → Bool → Bool → Arrived
     z a c d = cond (not a) (arrives-as (arrivals.Refused MemoryLength) (w .stream)) (cond (not c) (arrives-as arrivals.Ignored (w .stream))
         (cond d (arrives-as (arrivals.Refused RunFull) (w .stream))
         (acceptedOf (withRun (w .stream) (countedRun (w .stream .run))) (w .stream .run .accepted) (length b) fl (w .size) t)))
-    go : (a : Bool) → a ≡ true → (c : Bool) → streaming (w .stream) ≡ c → (d : Bool) → leb runLimit (w .stream .run .accepted) ≡ d → Comes w p b t fl other (z a c d)
+    go : (a : Bool) → a ≡ true → (c : Bool) → streaming (w .stream) ≡ c → (d : Bool) → leb runLimit (w .stream .run .accepted) ≡ d → Comes w p b t fl lends (z a c d)
     go false e c f d g = absurd (false≢true e)
-    go true e false f d g = nothing w p (arrival b t fl other) (arrived arrivals.Ignored) x (ap (λ (v : Bool). cond v (arrivedWhole p b t fl) idle) (sym (x .running) ∙ f))
-    go true e true f true g = nothing w p (arrival b t fl other) (arrived (arrivals.Refused RunFull)) x refl
+    go true e false f d g = nothing w p (arrival b t fl lends) (arrived arrivals.Ignored) x (ap (λ (v : Bool). cond v (arrivedWhole p b t fl) idle) (sym (x .running) ∙ f))
+    go true e true f true g = nothing w p (arrival b t fl lends) (arrived (arrivals.Refused RunFull)) x refl
     go true e true f false g =
-        comes-accepted w p b t fl other x s (sym (x .running) ∙ f) (omega (arith, leb-false runLimit (w .stream .run .accepted) g, ap (λ (q : Run). q .accepted) (x .run)))
+        comes-accepted w p b t fl lends x s (sym (x .running) ∙ f) (omega (arith, leb-false runLimit (w .stream .run .accepted) g, ap (λ (q : Run). q .accepted) (x .run)))
 
 -- with something of another length
-comes-other : (w : World) (p : Paper) (b : List ℕ) (t : Time) (fl : Bool) (other : List ℕ) → Tied w p → length other ≢ length (w .memory)
-    → Follows (withStream w (arrivalOf (w .stream) (length other) (length b) fl (w .size) t .stream)) p (arrival b t fl other)
-      (arrived (arrivalOf (w .stream) (length other) (length b) fl (w .size) t .arrival))
+comes-other : (w : World) (p : Paper) (b : List ℕ) (t : Time) (fl : Bool) (lends : List ℕ) → Tied w p → length lends ≢ length (w .memory)
+    → Follows (withStream w (arrivalOf (w .stream) (length lends) (length b) fl (w .size) t .stream)) p (arrival b t fl lends)
+      (arrived (arrivalOf (w .stream) (length lends) (length b) fl (w .size) t .arrival))
 unfolding arrivalOf
-comes-other w p b t fl other x h = rw (ne-eqb (length other) (w .stream .length) (λ e. h (e ∙ x .noted))) (nothing w p (arrival b t fl other) (arrived (arrivals.Refused MemoryLength)) x refl)
+comes-other w p b t fl lends x h = rw (ne-eqb (length lends) (w .stream .length) (λ e. h (e ∙ x .noted))) (nothing w p (arrival b t fl lends) (arrived (arrivals.Refused MemoryLength)) x refl)
 
-follows-arrival : (w : World) (p : Paper) (b : List ℕ) (t : Time) (fl : Bool) (other : List ℕ) → Tied w p → Sound p
-    → Follows (next w (arrival b t fl other)) p (arrival b t fl other) (answer w (arrival b t fl other))
-follows-arrival w p b t fl other x s = go (eqb (length other) (length (w .memory))) refl
+follows-arrival : (w : World) (p : Paper) (b : List ℕ) (t : Time) (fl : Bool) (lends : List ℕ) → Tied w p → Sound p
+    → Follows (next w (arrival b t fl lends)) p (arrival b t fl lends) (answer w (arrival b t fl lends))
+follows-arrival w p b t fl lends x s = go (eqb (length lends) (length (w .memory))) refl
   where
     r : Bool → Arrived
-    r v = arrivalOf (w .stream) (length (cond v (w .memory) other)) (length b) fl (w .size) t
-    go : (v : Bool) → eqb (length other) (length (w .memory)) ≡ v
-        → Follows (record { stream = r v .stream; size = w .size; memory = cond v (writtenBy (r v .arrival) (w .size) (w .memory) b) (w .memory) }) p (arrival b t fl other) (arrived (r v .arrival))
-    go true e = comes-lent w p b t fl other x s
-    go false e = comes-other w p b t fl other x (eqb-false (length other) (length (w .memory)) e)
+    r v = arrivalOf (w .stream) (length (cond v (w .memory) lends)) (length b) fl (w .size) t
+    go : (v : Bool) → eqb (length lends) (length (w .memory)) ≡ v
+        → Follows (record { stream = r v .stream; size = w .size; memory = cond v (writtenBy (r v .arrival) (w .size) (w .memory) b) (w .memory) }) p (arrival b t fl lends) (arrived (r v .arrival))
+    go true e = comes-lent w p b t fl lends x s
+    go false e = comes-other w p b t fl lends x (eqb-false (length lends) (length (w .memory)) e)
 
 -- ---- any call
 
@@ -433,4 +433,5 @@ follows w p dequeue t s = follows-dequeue w p t s
 follows w p start t s = follows-start w p t s
 follows w p stop t s = follows-stop w p t s
 follows w p (resize n) t s = follows-resize w p n t s
-follows w p (arrival b u fl other) t s = follows-arrival w p b u fl other t s
+follows w p (arrival b u fl lends) t s = follows-arrival w p b u fl lends t s
+follows w p other t s = nothing w p other (replied Done) t refl

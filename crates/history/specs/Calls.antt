@@ -16,7 +16,8 @@ use Rattle.arrival.specs.declared.Arrived.{Arrived}
 use Rattle.arrival.specs.Arrivals.{arrivalOf, writtenBy}
 
 -- A call. A client asks for so many buffers, hands one in, takes one, starts, stops, or asks for another frame size; or a frame
--- arrives: its bytes, its time, whether it is whole by the caller's rule, and what is lent if not the stream's memory.
+-- arrives: its bytes, its time, whether it is whole by the caller's rule, and what is lent if not the stream's memory. Any other
+-- call leaves the stream alone.
 pub data Call : Type 0 where
   request : ℕ → Call
   enqueue : ℕ → Call
@@ -25,6 +26,7 @@ pub data Call : Type 0 where
   stop : Call
   resize : ℕ → Call
   arrival : List ℕ → Time → Bool → List ℕ → Call
+  other : Call
 
 -- What a call is answered.
 pub data Answer : Type 0 where
@@ -43,11 +45,11 @@ opened size m = record { stream = freshStream (length m); size = size; memory = 
 
 -- an arrival is lent the memory as it was left, or something of another length
 abbrev pub lent : World → List ℕ → List ℕ
-lent w other = cond (eqb (length other) (length (w .memory))) (w .memory) other
+lent w lends = cond (eqb (length lends) (length (w .memory))) (w .memory) lends
 
 -- what an arrival answers and leaves
 abbrev pub arrives : World → List ℕ → Time → Bool → List ℕ → Arrived
-arrives w b t whole other = arrivalOf (w .stream) (length (lent w other)) (length b) whole (w .size) t
+arrives w b t whole lends = arrivalOf (w .stream) (length (lent w lends)) (length b) whole (w .size) t
 
 -- the frame size can change only while no buffer exists
 abbrev pub sizeReply : ℕ → Reply
@@ -61,7 +63,8 @@ answer w dequeue = replied (dequeueOf (w .stream) .reply)
 answer w start = replied (startOf (w .stream) .reply)
 answer w stop = replied (stopOf (w .stream) .reply)
 answer w (resize n) = replied (sizeReply (w .stream .queues .granted))
-answer w (arrival b t whole other) = arrived (arrives w b t whole other .arrival)
+answer w (arrival b t whole lends) = arrived (arrives w b t whole lends .arrival)
+answer w other = replied Done
 
 -- the same memory and frame size with another stream
 abbrev pub withStream : World → Stream → World
@@ -75,11 +78,12 @@ next w dequeue = withStream w (dequeueOf (w .stream) .stream)
 next w start = withStream w (startOf (w .stream) .stream)
 next w stop = withStream w (stopOf (w .stream) .stream)
 next w (resize n) = record { stream = w .stream; size = cond (eqb (w .stream .queues .granted) 0) n (w .size); memory = w .memory }
-next w (arrival b t whole other) =
+next w (arrival b t whole lends) =
     record {
-      stream = arrives w b t whole other .stream;
+      stream = arrives w b t whole lends .stream;
       size = w .size;
-      memory = cond (eqb (length other) (length (w .memory))) (writtenBy (arrives w b t whole other .arrival) (w .size) (w .memory) b) (w .memory) }
+      memory = cond (eqb (length lends) (length (w .memory))) (writtenBy (arrives w b t whole lends .arrival) (w .size) (w .memory) b) (w .memory) }
+next w other = w
 
 -- what a list of calls leaves
 abbrev pub after : World → List Call → World

@@ -86,13 +86,13 @@ module _ (size : ℕ) (m : List ℕ) (before : List Call) (k : ℕ) (mid : List 
 -- b. the (i+1)th whole accepted arrival from there on is stored in k, under the count of arrivals accepted before it in the run,
 -- and its bytes then stand at the start of k's slot
 abbrev pub Stores : Type 0
-Stores = (size : ℕ) (m : List ℕ) (before : List Call) (k : ℕ) (mid : List Call) (b : List ℕ) (t : Time) (w : Bool) (other : List ℕ)
+Stores = (size : ℕ) (m : List ℕ) (before : List Call) (k : ℕ) (mid : List Call) (b : List ℕ) (t : Time) (w : Bool) (lends : List ℕ)
     → Accepted size m before k mid
     → wholes (since size m before k mid) ≡ waitingBefore size m before k mid
-    → told (paperAfter size m (upTo size m before k mid)) (arrival b t w other) (answer (worldAfter size m (upTo size m before k mid)) (arrival b t w other)) ≡ whole b t
-    → (answer (worldAfter size m (upTo size m before k mid)) (arrival b t w other)
+    → told (paperAfter size m (upTo size m before k mid)) (arrival b t w lends) (answer (worldAfter size m (upTo size m before k mid)) (arrival b t w lends)) ≡ whole b t
+    → (answer (worldAfter size m (upTo size m before k mid)) (arrival b t w lends)
         ≡ arrived (Stored k (paperAfter size m (upTo size m before k mid) .run .accepted)))
-    × (slotBytes (next (worldAfter size m (upTo size m before k mid)) (arrival b t w other)) k (length b) ≡ b)
+    × (slotBytes (next (worldAfter size m (upTo size m before k mid)) (arrival b t w lends)) k (length b) ≡ b)
 
 -- the whole accepted arrival among calls before which n whole ones came
 pub record Arrival (w : World) (p : Paper) (cs : List Call) (n : ℕ) : Type 0 where
@@ -100,10 +100,10 @@ pub record Arrival (w : World) (p : Paper) (cs : List Call) (n : ℕ) : Type 0 w
   pub bytes : List ℕ
   pub time : Time
   pub flag : Bool
-  pub other : List ℕ
+  pub lends : List ℕ
   pub back : List Call
-  pub is : cs ≡ front ++ arrival bytes time flag other ∷ back
-  pub accepted : told (noted p (events w p front)) (arrival bytes time flag other) (answer (after w front) (arrival bytes time flag other)) ≡ whole bytes time
+  pub is : cs ≡ front ++ arrival bytes time flag lends ∷ back
+  pub accepted : told (noted p (events w p front)) (arrival bytes time flag lends) (answer (after w front) (arrival bytes time flag lends)) ≡ whole bytes time
   pub place : wholes (events w p front) ≡ n
 
 -- c. the (o+i+1)th successful dequeue from there on returns k with exactly the number, time and length of the (i+1)th whole

@@ -12,7 +12,7 @@ use Rattle.stream.specs.declared.Reply.the-variants as replies
 use Rattle.arrival.specs.declared.Arrival.{Arrival}
 use Rattle.arrival.specs.declared.Arrival.the-variants as arrivals
 use Rattle.history.specs.Calls.{Call, Answer, World, answer, next}
-use Rattle.history.specs.Calls.Call.{request, enqueue, dequeue, start, stop, resize, arrival}
+use Rattle.history.specs.Calls.Call.{request, enqueue, dequeue, start, stop, resize, arrival, other}
 use Rattle.history.specs.Calls.Answer.{replied, arrived}
 
 -- An arrival: its number in the run, its time and its bytes.
@@ -88,7 +88,8 @@ repliedTold p dequeue r = handed
 repliedTold p start r = cond (p .running) idle begun
 repliedTold p stop r = ended (p .granted)
 repliedTold p (resize n) r = sized n
-repliedTold p (arrival b t w other) r = idle
+repliedTold p (arrival b t w lends) r = idle
+repliedTold p other r = idle
 
 -- an arrival that was not refused is accepted inside a run, and ignored outside
 abbrev pub arrivedTold : Paper → Call → Event
@@ -98,7 +99,8 @@ arrivedTold p dequeue = idle
 arrivedTold p start = idle
 arrivedTold p stop = idle
 arrivedTold p (resize n) = idle
-arrivedTold p (arrival b t w other) = cond (p .running) (arrivedWhole p b t w) idle
+arrivedTold p (arrival b t w lends) = cond (p .running) (arrivedWhole p b t w) idle
+arrivedTold p other = idle
 
 -- a refused call tells nothing
 abbrev pub told : Paper → Call → Answer → Event

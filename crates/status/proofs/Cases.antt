@@ -9,7 +9,7 @@ use Rattle.buffers.specs.Queues.{isIncoming, isOutgoing, entryOf}
 use Rattle.stream.specs.declared.Stream.{Stream}
 use Rattle.status.specs.declared.Status.{Status}
 use Rattle.status.specs.declared.Queried.the-variants.{Buffer}
-use Rattle.status.specs.Buffer.{flagsOf, describedOf, queryOf}
+use Rattle.status.specs.Buffer.{flagsOf, describedOf, statusOf, queryOf}
 
 module _ (q : Queues) (k : ℕ) where
   pub flags-outgoing : isOutgoing q k ≡ true → 4 ≡ flagsOf q k
@@ -24,8 +24,13 @@ module _ (q : Queues) (k : ℕ) where
   unfolding flagsOf
   flags-dequeued g h = simp (g, h)
 
--- of a buffer that is there, by its flags, its entry and what describes them
-pub query-there : (s : Stream) (k size : ℕ) → k < s .queues .granted → (flags : ℕ) → flags ≡ flagsOf (s .queues) k
-    → (entry : Filled) → entry ≡ entryOf (s .queues) k → (status : Status) → status ≡ describedOf k flags entry size → Buffer status ≡ queryOf s k size
+-- by its flags, its entry and what describes them
+pub status-by : (s : Stream) (k size flags : ℕ) → flags ≡ flagsOf (s .queues) k → (entry : Filled) → entry ≡ entryOf (s .queues) k
+    → (status : Status) → status ≡ describedOf k flags entry size → status ≡ statusOf s k size
+unfolding statusOf
+status-by s k size flags f entry e status d = simp (d, f, e)
+
+-- of a buffer that is there
+pub query-there : (s : Stream) (k size : ℕ) → k < s .queues .granted → (status : Status) → status ≡ statusOf s k size → Buffer status ≡ queryOf s k size
 unfolding queryOf
-query-there s k size h flags f entry e status d = simp (lt-leb _ _ h, d, f, e)
+query-there s k size h status e = simp (lt-leb _ _ h, e)

@@ -22,10 +22,12 @@ describedOf k flags f size =
     record { index = k; used = f .used; flags = flags; number = f .number; offset = slotOffset k size; length = slotSize size; time = f .time }
 
 -- QUERYBUF and QBUF: bytes used, time and number are zero unless it is outgoing
+unfoldable pub statusOf : Stream → ℕ → ℕ → Status
+statusOf s k size = describedOf k (flagsOf (s .queues) k) (entryOf (s .queues) k) size
+
+-- of a buffer that is there
 unfoldable pub queryOf : Stream → ℕ → ℕ → Queried
-queryOf s k size =
-    cond (leb (s .queues .granted) k) (Refused NoSuchIndex)
-    (Buffer (describedOf k (flagsOf (s .queues) k) (entryOf (s .queues) k) size))
+queryOf s k size = cond (leb (s .queues .granted) k) (Refused NoSuchIndex) (Buffer (statusOf s k size))
 
 -- DQBUF: the entry handed over, now in neither queue
 unfoldable pub returnedOf : Filled → ℕ → Status

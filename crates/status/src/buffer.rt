@@ -1,6 +1,6 @@
 // The status of a buffer.
 ghost use mathlib.Core.Path.{_≡_};
-ghost use Rattle.status.specs.Buffer.{flagsOf, describedOf, queryOf, returnedOf};
+ghost use Rattle.status.specs.Buffer.{flagsOf, describedOf, statusOf, queryOf, returnedOf};
 use crate::Queried;
 use crate::Status;
 use buffers::Filled;
@@ -40,17 +40,24 @@ fn described(k: u32, flags: u32, entry: Filled, size: u32) -> Status
     }
 }
 
-// The status of buffer k, while frames have this size.
+// Buffer k, while frames have this size.
+pub fn of_buffer(s: Stream, k: u32, size: u32) -> Status
+    ensures { λ r. ⌜ r ≡ statusOf s k size ⌝ }
+{
+    let q = s.queues;
+    let out = buffers::find_outgoing(q, k);
+    let entry = out.entry;
+    described(k, flags(q, k), entry, size)
+}
+
+// The status of buffer k, if there is one.
 pub fn query(s: Stream, k: u32, size: u32) -> Queried
     ensures { λ r. ⌜ r ≡ queryOf s k size ⌝ }
 {
-    let q = s.queues;
-    if q.granted <= k {
+    if s.queues.granted <= k {
         return Queried::Refused(Refusal::NoSuchIndex);
     }
-    let out = buffers::find_outgoing(q, k);
-    let entry = out.entry;
-    let status = described(k, flags(q, k), entry, size);
+    let status = of_buffer(s, k, size);
     Queried::Buffer(status)
 }
 

@@ -8,6 +8,7 @@ use Rattle.grid.specs.Grid.{nearestMultiple, nearestUpTo, nearestSize, nearestV
 use Rattle.format.specs.Code.{bytesPerPixel, halfChroma}
 use Rattle.format.specs.Size.{roundUp, bytesPerLine, heldHeight, firstPlane, imageSize}
 use Rattle.buffers.specs.Slot.{slotSize}
+use Rattle.stream.specs.Calls.{grantOf}
 use Rattle.planes.specs.Planes.{planesOf, componentOf, componentLength, planeLength, planeStart}
 use Rattle.negotiation.specs.Negotiation.{negotiated}
 use Rattle.crop.specs.Crop.{minZ, maxZ, clampZ, sizeIn, placeIn, widthIn, leftIn, clamped}
@@ -20,7 +21,7 @@ use Rattle.figures.proofs.bench_figures.Statement.{statement}
 use Rattle.figures.proofs.bench_figures.Tie as tie
 
 returns : tie.Need-returns
-unfolding figures benchSheet wordAt le32 bytesOf signed bits signedAt above geometryAt controlsAt controlCount controlAt controlId controlKind limitsOf controlFlags controlFields rangeAt widthsOf lineAlignment rectAt cropBounds cropDefault nearestMultiple nearestUpTo nearestSize nearestValue bytesPerPixel halfChroma roundUp bytesPerLine heldHeight firstPlane imageSize slotSize planesOf componentOf componentLength planeLength planeStart negotiated minZ maxZ clampZ sizeIn placeIn widthIn leftIn clamped firstFrom firstBelow present placeOf rangedAt settingAt settingOf storedValues
+unfolding figures grantOf benchSheet wordAt le32 bytesOf signed bits signedAt above geometryAt controlsAt controlCount controlAt controlId controlKind limitsOf controlFlags controlFields rangeAt widthsOf lineAlignment rectAt cropBounds cropDefault nearestMultiple nearestUpTo nearestSize nearestValue bytesPerPixel halfChroma roundUp bytesPerLine heldHeight firstPlane imageSize slotSize planesOf componentOf componentLength planeLength planeStart negotiated minZ maxZ clampZ sizeIn placeIn widthIn leftIn clamped firstFrom firstBelow present placeOf rangedAt settingAt settingOf storedValues
 returns c = refl
 
 pub bench-figures-spec : {M : Type 1} → statement M

@@ -1,0 +1,27 @@
+// What a list of events goes through: the stream, and what the next arrival depends on.
+use stream::Stream;
+
+pub(crate) struct Scene {
+    pub(crate) stream: Stream,
+    pub(crate) size: u32,
+    pub(crate) clock: u32,
+    pub(crate) arrivals: u32,
+}
+
+// A stream just opened, frames of 64 bytes, five o'clock, no arrival yet.
+pub(crate) fn opened(length: u64) -> Scene {
+    let stream = stream::fresh(length);
+    Scene {
+        stream,
+        size: 64,
+        clock: 5,
+        arrivals: 0,
+    }
+}
+
+// The same with another stream.
+pub(crate) fn with(w: Scene, stream: Stream) -> Scene {
+    let mut next = w;
+    next.stream = stream;
+    next
+}
