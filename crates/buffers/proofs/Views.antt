@@ -71,7 +71,8 @@ holds-pushed q n i o k h l =
       few = omega arith;
       fewer = h .fewer;
       ins = rw add-one (take-suc-set (q .incoming) (q .queued) k (omega (arith, h .long)) ∙ ap (λ (x : List ℕ). x ++ (k ∷ [])) (h .ins));
-      outs = h .outs }
+      outs = h .outs;
+    }
 
 -- the oldest incoming buffer is the first of the list
 pub oldest-incoming : (q : Queues) (n k : ℕ) (i : List ℕ) (o : List Filled) → Holds q n (k ∷ i) o → oldestIncoming q ≡ k
@@ -95,9 +96,10 @@ holds-filled q n k i o number used time h l =
       fewer = omega arith;
       ins = take-shift (q .incoming) (q .queued) 0 k i (omega (arith, h .long, h .few)) (h .ins);
       outs =
-        rw (add-one, oldest-incoming q n k i o h)
-        (take-suc-set (q .outgoing) (q .done) _ (omega (arith, h .longer))
-        ∙ ap (λ (x : List Filled). x ++ (record { index = k; number = number; used = used; time = time } ∷ [])) (h .outs)) }
+          rw (add-one, oldest-incoming q n k i o h)
+          (take-suc-set (q .outgoing) (q .done) _ (omega (arith, h .longer))
+          ∙ ap (λ (x : List Filled). x ++ (record { index = k; number = number; used = used; time = time } ∷ [])) (h .outs));
+    }
 
 -- dequeued: the first outgoing one leaves
 pub holds-popped : (q : Queues) (n : ℕ) (i : List ℕ) (f : Filled) (o : List Filled) → Holds q n i (f ∷ o) → Holds (popped q) n i o
@@ -111,4 +113,5 @@ holds-popped q n i f o h =
       few = h .few;
       fewer = omega (arith, h .fewer);
       ins = h .ins;
-      outs = take-shift (q .outgoing) (q .done) noFrame f o (omega (arith, h .longer, h .fewer)) (h .outs) }
+      outs = take-shift (q .outgoing) (q .done) noFrame f o (omega (arith, h .longer, h .fewer)) (h .outs);
+    }

@@ -8,6 +8,7 @@ use Rattle.history.specs.Claims.{paperAfter, worldAfter}
 use Rattle.history.proofs.Sound.{Sound, Fits, sound-blank, sound-step}
 use Rattle.history.proofs.Tied.{Tied, Answers, Follows, tied-opened, follows}
 use Rattle.history.proofs.Order.{Legal}
+use Rattle.history.proofs.Machine.{keeps-after, legal-tells}
 
 -- The stream is as the paper says, and the paper is sound.
 pub record Kept (w : World) (p : Paper) : Type 0 where
@@ -31,27 +32,15 @@ kept-next w p c k =
     let f : Follows (next w c) p c (answer w c) = follows w p c (k .tied) (k .sound) in
     record {
       tied = subst (λ (e : Event). Tied (next w c) (step p e)) (sym (f .tells)) (f .tied);
-      sound = sound-step p (told p c (answer w c)) (k .sound) (fits-next w p c k) }
+      sound = sound-step p (told p c (answer w c)) (k .sound) (fits-next w p c k);
+    }
 
 pub kept-after : (cs : List Call) (w : World) (p : Paper) → Kept w p → Kept (after w cs) (noted p (events w p cs))
-kept-after [] w p k = k
-kept-after (c ∷ cs) w p k = kept-after cs (next w c) (step p (told p c (answer w c))) (kept-next w p c k)
+kept-after = keeps-after answer next told Kept kept-next
 
 pub legal-events : (cs : List Call) (w : World) (p : Paper) → Kept w p → Legal p (events w p cs)
-legal-events [] w p k = tt
-legal-events (c ∷ cs) w p k = (fits-next w p c k, legal-events cs (next w c) (step p (told p c (answer w c))) (kept-next w p c k))
+legal-events = legal-tells answer next told Kept kept-next fits-next
 
 -- from an opening on
 pub kept : (size : ℕ) (m : List ℕ) (cs : List Call) → Kept (worldAfter size m cs) (paperAfter size m cs)
 kept size m cs = kept-after cs (opened size m) (blank size) (record { tied = tied-opened size m; sound = sound-blank size })
-
--- ---- lists of calls that are put together
-
-pub after-append : (a b : List Call) (w : World) → after w (a ++ b) ≡ after (after w a) b
-after-append [] b w = refl
-after-append (c ∷ a) b w = after-append a b (next w c)
-
-pub paper-append : (a b : List Call) (w : World) (p : Paper)
-    → noted p (events w p (a ++ b)) ≡ noted (noted p (events w p a)) (events (after w a) (noted p (events w p a)) b)
-paper-append [] b w p = refl
-paper-append (c ∷ a) b w p = paper-append a b (next w c) (step p (told p c (answer w c)))

@@ -4,7 +4,7 @@ use mathlib.Core.Bool.{Bool, true, false, cond, _&&_, true≢false}
 use Prim.Native.Nat.{ℕ, _+_, _≤_, _<_}
 use native.Mathlib.Omega.{arith}
 use lib.Dec.{leb}
-use mathlib.Core.List.{List, [], _∷_, _++_, map, append-assoc, head-eq-of-cons-eq, tail-eq-of-cons-eq, nil≢cons}
+use mathlib.Core.List.{List, [], _∷_, _++_, map, append-assoc, head-eq-of-cons-eq, tail-eq-of-cons-eq}
 use lib.ListN.{length, take, drop}
 use Rattle.buffers.specs.declared.Time.{Time}
 use Rattle.buffers.specs.declared.Filled.{Filled}
@@ -23,7 +23,8 @@ use Rattle.history.specs.Claims.{paperAfter, worldAfter, slotBytes, wait
 use Rattle.history.proofs.Lists.{All, all-append}
 use Rattle.history.proofs.Sound.{Sound, Fits}
 use Rattle.history.proofs.Tied.{Tied, Answers, Held, entry, placedAs, firstOf}
-use Rattle.history.proofs.Every.{Kept, fits-next, foretold-next, kept-next, kept-after, legal-events, kept, after-append, paper-append}
+use Rattle.history.proofs.Every.{Kept, fits-next, foretold-next, kept-next, kept-after, legal-events, kept}
+use Rattle.history.proofs.Machine.{leaves-append, noted-tells, Cut, cut}
 use Rattle.history.proofs.Order.{At, Leaves, pairOf, comes-first, leaves}
 
 -- ---- at one moment
@@ -39,9 +40,10 @@ stored-now w p k r b t fl lends g e h =
     let n : Tied (next w c) (step p (whole b t)) = subst (λ (v : Event). Tied (next w c) (step p v)) h (kept-next w p c g .tied) in
     let m : List ℕ = next w c .memory in
     let all : All (Held (p .size) m) (filled (k ∷ r) (frameOf p b t) (p .outgoing)) =
-        subst (λ (i : List ℕ). All (Held (p .size) m) (filled i (frameOf p b t) (p .outgoing))) e (n .held) in
-    (a ∙ ap (λ (i : List ℕ). arrived (placedAs i (p .run .accepted))) e,
-    ap (λ (z : ℕ). take (length b) (drop (slotOffset k z) m)) (n .size) ∙ all-append (Held (p .size) m) (p .outgoing) (pairOf k p b t ∷ []) all .1 .0 .1)
+    subst (λ (i : List ℕ). All (Held (p .size) m) (filled i (frameOf p b t) (p .outgoing))) e (n .held) in (
+      a ∙ ap (λ (i : List ℕ). arrived (placedAs i (p .run .accepted))) e,
+      ap (λ (z : ℕ). take (length b) (drop (slotOffset k z) m)) (n .size) ∙ all-append (Held (p .size) m) (p .outgoing) (pairOf k p b t ∷ []) all .1 .0 .1,
+    )
 
 -- the first outgoing pair is x: a dequeue returns it, and its slot holds its bytes
 returned-now : (w : World) (p : Paper) (x : Pair) (r : List Pair) (f : Filled) → Kept w p → p .outgoing ≡ x ∷ r → answer w dequeue ≡ replied (Returned f)
@@ -49,7 +51,7 @@ returned-now : (w : World) (p : Paper) (x : Pair) (r : List Pair) (f : Filled) �
 returned-now w p x r f g e h =
     let told-handed : told p dequeue (answer w dequeue) ≡ handed = ap (told p dequeue) h in
     let a : answer w dequeue ≡ replied (Returned (firstOf (p .outgoing))) =
-        subst (λ (v : Event). Answers p v (answer w dequeue)) told-handed (foretold-next w p dequeue g) in
+    subst (λ (v : Event). Answers p v (answer w dequeue)) told-handed (foretold-next w p dequeue g) in
     let q : replied (Returned f) ≡ replied (Returned (entry x)) = sym h ∙ a ∙ ap (λ (o : List Pair). replied (Returned (firstOf o))) e in
     let held : Held (p .size) (w .memory) x = subst (All (Held (p .size) (w .memory))) e (g .tied .held) .0 in
     (cc q, ap (λ (z : ℕ). take (length (x .frame .bytes)) (drop (slotOffset (x .index) z) (w .memory))) (g .tied .size) ∙ held .1)
@@ -65,28 +67,6 @@ stores-at w p k mid b t fl lends g c n h =
     let (r, e) = comes-first p k (events w (step p (put k)) mid) c n in
     stored-now (after w mid) (noted (step p (put k)) (events w (step p (put k)) mid)) k r b t fl lends (kept-after mid w (step p (put k)) g) e h
 
--- a list of calls, cut where its events are cut
-record Cut (w : World) (p : Paper) (cs : List Call) (front : List Event) (e : Event) : Type 0 where
-  fore : List Call
-  call : Call
-  aft : List Call
-  is : cs ≡ fore ++ call ∷ aft
-  tells-front : events w p fore ≡ front
-  tells-call : told (noted p (events w p fore)) call (answer (after w fore) call) ≡ e
-
-cut : (cs : List Call) (w : World) (p : Paper) (front : List Event) (e : Event) (back : List Event) → events w p cs ≡ front ++ e ∷ back → Cut w p cs front e
-cut [] w p [] e back h = absurd (nil≢cons h)
-cut [] w p (f ∷ front) e back h = absurd (nil≢cons h)
-cut (c ∷ cs) w p [] e back h = record { fore = []; call = c; aft = cs; is = refl; tells-front = refl; tells-call = head-eq-of-cons-eq h }
-cut (c ∷ cs) w p (f ∷ front) e back h = go (cut cs (next w c) (step p (told p c (answer w c))) front e back (tail-eq-of-cons-eq h))
-  where
-    go : Cut (next w c) (step p (told p c (answer w c))) cs front e → Cut w p (c ∷ cs) (f ∷ front) e
-    go t = record {
-        fore = c ∷ t .fore; call = t .call; aft = t .aft;
-        is = ap (λ (l : List Call). c ∷ l) (t .is);
-        tells-front = cc (head-eq-of-cons-eq h, t .tells-front);
-        tells-call = t .tells-call }
-
 -- A call that tells of a whole arrival is one.
 record IsArrival (c : Call) (b : List ℕ) (t : Time) : Type 0 where
   flag : Bool
@@ -94,7 +74,7 @@ record IsArrival (c : Call) (b : List ℕ) (t : Time) : Type 0 where
   is : c ≡ arrival b t flag lends
 
 -- whether an event is a whole arrival
-abbrev isWhole : Event → Bool
+abbrev pub isWhole : Event → Bool
 isWhole (put k) = false
 isWhole (whole b t) = true
 isWhole damaged = false
@@ -104,11 +84,11 @@ isWhole (ended n) = false
 isWhole (sized n) = false
 isWhole idle = false
 
-never : (e : Event) (b : List ℕ) (t : Time) {A : Type 0} → isWhole e ≡ false → e ≡ whole b t → A
+pub never : (e : Event) (b : List ℕ) (t : Time) {A : Type 0} → isWhole e ≡ false → e ≡ whole b t → A
 never e b t n h = absurd (true≢false (sym (ap isWhole h) ∙ n))
 
 -- a call that does not, refused or not
-unless : (x : Bool) (e : Event) (b : List ℕ) (t : Time) {A : Type 0} → isWhole e ≡ false → cond x idle e ≡ whole b t → A
+pub unless : (x : Bool) (e : Event) (b : List ℕ) (t : Time) {A : Type 0} → isWhole e ≡ false → cond x idle e ≡ whole b t → A
 unless true e b t n h = never idle b t refl h
 unless false e b t n h = never e b t n h
 
@@ -130,15 +110,21 @@ whole-call w p (arrival d u fl lends) b t h = go (refusedArrival (arrives w d u 
     go false true false e = never damaged b t refl e
     go false false y e = never idle b t refl e
 
-arrival-of : (w : World) (p : Paper) (cs : List Call) (n : ℕ) (a : At (events w p cs) n) → Cut w p cs (a .front) (whole (a .bytes) (a .time)) → Arrival w p cs n
+arrival-of : (w : World) (p : Paper) (cs : List Call) (n : ℕ) (a : At (events w p cs) n) → Cut answer next told w p cs (a .front) (whole (a .bytes) (a .time)) → Arrival w p cs n
 arrival-of w p cs n a c = go (whole-call (after w (c .fore)) (noted p (events w p (c .fore))) (c .call) (a .bytes) (a .time) (c .tells-call))
   where
     go : IsArrival (c .call) (a .bytes) (a .time) → Arrival w p cs n
     go i = record {
-        front = c .fore; bytes = a .bytes; time = a .time; flag = i .flag; lends = i .lends; back = c .aft;
-        is = rw (i .is) at (c .is);
-        accepted = rw (i .is) at (c .tells-call);
-        place = ap wholes (c .tells-front) ∙ a .place }
+      front = c .fore;
+      bytes = a .bytes;
+      time = a .time;
+      flag = i .flag;
+      lends = i .lends;
+      back = c .aft;
+      is = rw (i .is) at (c .is);
+      accepted = rw (i .is) at (c .tells-call);
+      place = ap wholes (c .tells-front) ∙ a .place;
+    }
 
 -- what comes back: the arrival before which n whole ones came
 abbrev ComesBack : World → Paper → ℕ → List Call → Filled → ℕ → Type 0
@@ -153,16 +139,18 @@ returns-at : (w : World) (p : Paper) (k : ℕ) (mid : List Call) (f : Filled) �
 unfolding arrival-of
 returns-at w p k mid f g c n h =
     go (leaves p k (events w (step p (put k)) mid) c (legal-events mid w (step p (put k)) g)
-      (subst (Fits now-paper) (ap (told now-paper dequeue) h) (fits-next (after w mid) now-paper dequeue now-kept)) n)
+    (subst (Fits now-paper) (ap (told now-paper dequeue) h) (fits-next (after w mid) now-paper dequeue now-kept)) n)
   where
     now-paper : Paper
     now-paper = noted (step p (put k)) (events w (step p (put k)) mid)
+
     now-kept : Kept (after w mid) (noted (step p (put k)) (events w (step p (put k)) mid))
     now-kept = kept-after mid w (step p (put k)) g
+
     go : Leaves p k (events w (step p (put k)) mid) → ComesBack w (step p (put k)) k mid f (length (p .incoming))
     go l =
         let q : Paper = step p (put k) in
-        let t : Cut w q mid (l .at .front) (whole (l .at .bytes) (l .at .time)) = cut mid w q (l .at .front) (whole (l .at .bytes) (l .at .time)) (l .at .back) (l .at .is) in
+        let t : Cut answer next told w q mid (l .at .front) (whole (l .at .bytes) (l .at .time)) = cut answer next told mid w q (l .at .front) (whole (l .at .bytes) (l .at .time)) (l .at .back) (l .at .is) in
         let (x, y) = returned-now (after w mid) now-paper (pairOf k (noted q (l .at .front)) (l .at .bytes) (l .at .time)) (l .behind) f now-kept (l .first) h in
         let back : List Event → Filled = λ es. record { index = k; number = noted q es .run .accepted; used = length (l .at .bytes); time = l .at .time } in
         (arrival-of w q mid (length (p .incoming)) (l .at) t, x ∙ ap back (sym (t .tells-front)), y)
@@ -173,7 +161,7 @@ returns-on : (w : World) (p q : Paper) (k : ℕ) (mid : List Call) (f : Filled) 
     → answer (after w mid) dequeue ≡ replied (Returned f) → ComesBack w q k mid f (length (p .incoming))
 returns-on w p q k mid f e =
     subst (λ (q : Paper). Kept w q → Calm (events w q mid) → dequeues (events w q mid) ≡ length (p .outgoing) + length (p .incoming)
-      → answer (after w mid) dequeue ≡ replied (Returned f) → ComesBack w q k mid f (length (p .incoming)))
+    → answer (after w mid) dequeue ≡ replied (Returned f) → ComesBack w q k mid f (length (p .incoming)))
     (sym e) (returns-at w p k mid f)
 
 -- ---- from the opening
@@ -182,10 +170,10 @@ module _ (size : ℕ) (m : List ℕ) (before : List Call) (k : ℕ) where
   -- the paper and the stream when k has been handed in and accepted
   paper-in : answer (worldAfter size m before) (enqueue k) ≡ replied Done → paperAfter size m (before ++ enqueue k ∷ []) ≡ step (paperAfter size m before) (put k)
   paper-in h =
-      paper-append before (enqueue k ∷ []) (opened size m) (blank size) ∙ ap (λ (a : Answer). step (paperAfter size m before) (told (paperAfter size m before) (enqueue k) a)) h
+      noted-tells answer next told before (enqueue k ∷ []) (opened size m) (blank size) ∙ ap (λ (a : Answer). step (paperAfter size m before) (told (paperAfter size m before) (enqueue k) a)) h
 
   world-in : worldAfter size m (before ++ enqueue k ∷ []) ≡ next (worldAfter size m before) (enqueue k)
-  world-in = after-append before (enqueue k ∷ []) (opened size m)
+  world-in = leaves-append answer next told before (enqueue k ∷ []) (opened size m)
 
   kept-in : answer (worldAfter size m before) (enqueue k) ≡ replied Done → Kept (worldAfter size m (before ++ enqueue k ∷ [])) (step (paperAfter size m before) (put k))
   kept-in h = subst (Kept (worldAfter size m (before ++ enqueue k ∷ []))) (paper-in h) (kept size m (before ++ enqueue k ∷ []))
@@ -195,24 +183,24 @@ module _ (size : ℕ) (m : List ℕ) (before : List Call) (k : ℕ) where
   split mid = sym (append-assoc before (enqueue k ∷ []) mid)
 
   world-mid : (mid : List Call) → worldAfter size m (before ++ enqueue k ∷ mid) ≡ after (worldAfter size m (before ++ enqueue k ∷ [])) mid
-  world-mid mid = ap (after (opened size m)) (split mid) ∙ after-append (before ++ enqueue k ∷ []) mid (opened size m)
+  world-mid mid = ap (after (opened size m)) (split mid) ∙ leaves-append answer next told (before ++ enqueue k ∷ []) mid (opened size m)
 
   paper-mid : (mid : List Call) → paperAfter size m (before ++ enqueue k ∷ mid)
       ≡ noted (paperAfter size m (before ++ enqueue k ∷ [])) (events (worldAfter size m (before ++ enqueue k ∷ [])) (paperAfter size m (before ++ enqueue k ∷ [])) mid)
-  paper-mid mid = ap (paperAfter size m) (split mid) ∙ paper-append (before ++ enqueue k ∷ []) mid (opened size m) (blank size)
+  paper-mid mid = ap (paperAfter size m) (split mid) ∙ noted-tells answer next told (before ++ enqueue k ∷ []) mid (opened size m) (blank size)
 
 pub stores : Stores
 stores size m before k mid b t fl lends (h, c) n e =
     rw (world-mid size m before k mid, paper-mid size m before k mid, paper-in size m before k h)
     (stores-at (worldAfter size m (before ++ enqueue k ∷ [])) (paperAfter size m before) k mid b t fl lends (kept-in size m before k h)
-      (rw (paper-in size m before k h) at c) (rw (paper-in size m before k h) at n)
-      (rw (world-mid size m before k mid, paper-mid size m before k mid, paper-in size m before k h) at e))
+    (rw (paper-in size m before k h) at c) (rw (paper-in size m before k h) at n)
+    (rw (world-mid size m before k mid, paper-mid size m before k mid, paper-in size m before k h) at e))
 
 pub returns-in-order : Returns
 returns-in-order size m before k mid f (h, c) n e =
     let w : World = worldAfter size m (before ++ enqueue k ∷ []) in
     let q : Paper = paperAfter size m (before ++ enqueue k ∷ []) in
     let (a, x, y) = returns-on w (paperAfter size m before) q k mid f (paper-in size m before k h) (kept size m (before ++ enqueue k ∷ [])) c n
-        (rw (world-mid size m before k mid) at e) in
+    (rw (world-mid size m before k mid) at e) in
     let back : Paper → Filled = λ p. record { index = k; number = p .run .accepted; used = length (a .bytes); time = a .time } in
     (a, x ∙ ap back (sym (paper-mid size m before k (a .front))), rw (world-mid size m before k mid) y)

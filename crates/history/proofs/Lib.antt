@@ -1,6 +1,7 @@
 pub mod Every
 pub mod InOrder
 pub mod Lists
+pub mod Machine
 pub mod Meanings
 pub mod Order
 pub mod Places

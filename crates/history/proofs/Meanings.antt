@@ -48,9 +48,14 @@ means p s = go (p .running) refl (eqb (p .run .ran) 0) refl (eqb (p .run .handed
     go true e b f c g d h = e
     go false e true f c g d h = (e, s .never (eqb-true _ _ f))
     go false e false f true g d h = (e, eqb-true _ _ g)
-    go false e false f false g true h =
-        (e, omega (arith, s .once, eqb-false (p .run .ran) 0 f), omega (arith, eqb-false (p .run .handed) 0 g, eqb-true (p .run .handed) (p .run .accepted) h),
-        omega (arith, s .adds, eqb-true (p .run .handed) (p .run .accepted) h), omega (arith, s .adds, eqb-true (p .run .handed) (p .run .accepted) h), eqb-true _ _ h)
+    go false e false f false g true h = (
+      e,
+      omega (arith, s .once, eqb-false (p .run .ran) 0 f),
+      omega (arith, eqb-false (p .run .handed) 0 g, eqb-true (p .run .handed) (p .run .accepted) h),
+      omega (arith, s .adds, eqb-true (p .run .handed) (p .run .accepted) h),
+      omega (arith, s .adds, eqb-true (p .run .handed) (p .run .accepted) h),
+      eqb-true _ _ h,
+    )
     go false e false f false g false h =
         (e, omega (arith, eqb-false (p .run .handed) 0 g), omega (arith, s .adds, eqb-false (p .run .handed) (p .run .accepted) h))
 
@@ -73,6 +78,7 @@ only p Complete Blank a b = absurd (omega (arith, b .1, a .2, a .5))
 only p Complete Gaps a b = absurd (omega (arith, b .2, a .5))
 only p Complete Complete a b = refl
 
+-- each verdict exactly when it means so
 exactly : (w : World) (p : Paper) → Kept w p → (v : Verdict) → (verdictOf (w .stream) ≡ v) ⇔ Means p v
 exactly w p k v =
     let e : verdictOf (w .stream) ≡ toldVerdict p = verdict-told w p k in
@@ -81,5 +87,9 @@ exactly w p k v =
 pub verdicts-mean : Verdicts
 verdicts-mean size m cs =
     let f : (v : Verdict) → (verdictOf (worldAfter size m cs .stream) ≡ v) ⇔ Means (paperAfter size m cs) v =
-        exactly (worldAfter size m cs) (paperAfter size m cs) (kept size m cs) in
+    exactly (worldAfter size m cs) (paperAfter size m cs) (kept size m cs) in
     (f Running, f Blank, f Gaps, f Complete)
+
+-- COMPLETE, where the stream is as the paper says
+pub complete-exactly : (w : World) (p : Paper) → Kept w p → (verdictOf (w .stream) ≡ Complete) ⇔ AllHandedOver p
+complete-exactly w p k = exactly w p k Complete

@@ -86,8 +86,11 @@ out-length : (es : List Event) (p : Paper) → Calm es → Legal p es → wholes
 out-length [] p c l h = omega arith
 out-length (put j ∷ es) p c l h = out-length es (step p (put j)) c (l .1) (omega (arith, length-append (p .incoming) (j ∷ [])))
 out-length (whole d t ∷ es) p c l h =
-    omega (arith, out-length es (step p (whole d t)) c (l .1) (omega (arith, length-rest (p .incoming) (omega arith))),
-      length-filled (p .incoming) (frameOf p d t) (p .outgoing) (omega arith))
+    omega (
+      arith,
+      out-length es (step p (whole d t)) c (l .1) (omega (arith, length-rest (p .incoming) (omega arith))),
+      length-filled (p .incoming) (frameOf p d t) (p .outgoing) (omega arith),
+    )
 out-length (damaged ∷ es) p c l h = out-length es (step p damaged) c (l .1) h
 out-length (handed ∷ es) p c l h = omega (arith, out-length es (step p handed) c (l .1) h, length-rest (p .outgoing) (l .0))
 out-length (begun ∷ es) p c l h = out-length es (step p begun) c (l .1) h
@@ -138,8 +141,13 @@ pub record At (es : List Event) (n : ℕ) : Type 0 where
 
 at-cons : (e : Event) (es : List Event) (n m : ℕ) → ((f : List Event) → wholes f ≡ n → wholes (e ∷ f) ≡ m) → At es n → At (e ∷ es) m
 at-cons e es n m h t = record {
-    front = e ∷ t .front; bytes = t .bytes; time = t .time; back = t .back;
-    is = ap (λ (l : List Event). e ∷ l) (t .is); place = h (t .front) (t .place) }
+  front = e ∷ t .front;
+  bytes = t .bytes;
+  time = t .time;
+  back = t .back;
+  is = ap (λ (l : List Event). e ∷ l) (t .is);
+  place = h (t .front) (t .place);
+}
 
 at-whole : (es : List Event) (n : ℕ) → n < wholes es → At es n
 at-whole [] n h = absurd (omega arith)
@@ -181,7 +189,7 @@ leaves-at p k front b t back c l n w =
     let (r1, e1) = comes-first p k front c1 w in
     let e2 : (step q1 (whole b t)) .outgoing ≡ q1 .outgoing ++ pairOf k q1 b t ∷ [] = rw e1 in
     let d : dequeues back ≡ length (q1 .outgoing) =
-        omega (arith, out-length front q c1 l1 (omega (arith, length-append (p .incoming) (k ∷ []))), dequeues-append front (whole b t ∷ back)) in
+    omega (arith, out-length front q c1 l1 (omega (arith, length-append (p .incoming) (k ∷ []))), dequeues-append front (whole b t ∷ back)) in
     rw (noted-append front (whole b t ∷ back) q) (first-out back (step q1 (whole b t)) (q1 .outgoing) (pairOf k q1 b t) [] e2 c2 d)
 
 pub leaves : (p : Paper) (k : ℕ) (es : List Event) → Calm es → Legal (step p (put k)) es

@@ -35,17 +35,18 @@ unfolding flagsOf isIncoming isOutgoing
 flags-told w p k g =
     let (out-once, in-once) = nodup-append (map indexOf (p .outgoing)) (p .incoming) (g .sound .apart) in
     let out : cond (isOutgoing (w .stream .queues) k) 1 0 ≡ timesOut p k =
-        ap (λ (l : List Filled). cond (any (ofBuffer k) l) 1 0) (g .tied .holds .outs)
-        ∙ ap (λ (b : Bool). cond b 1 0) (any-entries k (p .outgoing)) ∙ any-times k (map indexOf (p .outgoing)) out-once in
+    ap (λ (l : List Filled). cond (any (ofBuffer k) l) 1 0) (g .tied .holds .outs)
+    ∙ ap (λ (b : Bool). cond b 1 0) (any-entries k (p .outgoing)) ∙ any-times k (map indexOf (p .outgoing)) out-once in
     let in-it : cond (isIncoming (w .stream .queues) k) 1 0 ≡ timesIn p k =
-        ap (λ (l : List ℕ). cond (any (λ x. eqb x k) l) 1 0) (g .tied .holds .ins) ∙ any-times k (p .incoming) in-once in
+    ap (λ (l : List ℕ). cond (any (λ x. eqb x k) l) 1 0) (g .tied .holds .ins) ∙ any-times k (p .incoming) in-once in
     flags-count (isOutgoing (w .stream .queues) k) (isIncoming (w .stream .queues) k) (timesIn p k) (timesOut p k) out in-it
     (omega (arith, times-once k (line p) (g .sound .apart), times-append k (map indexOf (p .outgoing)) (p .incoming)))
 
 pub one-place : OnePlace
 one-place size m cs k =
     let p : Paper = paperAfter size m cs in
-    let g : Kept (worldAfter size m cs) p = kept size m cs in
-    (omega (arith, times-once k (line p) (g .sound .apart), times-append k (map indexOf (p .outgoing)) (p .incoming)),
-    λ h. omega (arith, times-past k (p .granted) (line p) (g .sound .below) h, times-append k (map indexOf (p .outgoing)) (p .incoming)),
-    flags-told (worldAfter size m cs) p k g)
+    let g : Kept (worldAfter size m cs) p = kept size m cs in (
+      omega (arith, times-once k (line p) (g .sound .apart), times-append k (map indexOf (p .outgoing)) (p .incoming)),
+      λ h. omega (arith, times-past k (p .granted) (line p) (g .sound .below) h, times-append k (map indexOf (p .outgoing)) (p .incoming)),
+      flags-told (worldAfter size m cs) p k g,
+    )

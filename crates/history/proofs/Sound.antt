@@ -36,6 +36,7 @@ pub record Sound (p : Paper) : Type 0 where
   pub runs : p .running ≡ true → p .run .ran ≡ 1
   pub once : p .run .ran ≤ 1
   pub never : p .run .ran ≡ 0 → p .run .handed ≡ 0
+  pub low : All (λ x. x .frame .number < runLimit) (p .outgoing)
 
 -- which events a stream can make
 abbrev pub Fits : Paper → Event → Type 0
@@ -50,8 +51,18 @@ Fits p idle = Unit {0}
 
 pub sound-blank : (size : ℕ) → Sound (blank size)
 sound-blank size = record {
-    apart = tt; below = tt; few = omega arith; adds = refl; limit = omega arith; kept = λ e. refl; none = λ e. refl;
-    runs = λ e. absurd (false≢true e); once = omega arith; never = λ e. refl }
+  apart = tt;
+  below = tt;
+  few = omega arith;
+  adds = refl;
+  limit = omega arith;
+  kept = λ e. refl;
+  none = λ e. refl;
+  runs = λ e. absurd (false≢true e);
+  once = omega arith;
+  never = λ e. refl;
+  low = tt;
+}
 
 -- the paper with these parts
 abbrev pub paper : ℕ → ℕ → Bool → Run → List ℕ → List Pair → Paper
@@ -64,9 +75,14 @@ room p s = omega (arith, s .few, pigeonhole (p .granted) (line p) (s .apart) (s 
 -- and for one more that is in neither
 pub room-more : (p : Paper) (k : ℕ) → Sound p → Fits p (put k) → length (p .outgoing) + length (p .incoming) < 32
 room-more p k s f =
-    omega (arith, s .few,
+    omega (
+      arith,
+      s .few,
       pigeonhole (p .granted) (line p ++ (k ∷ [])) (nodup-snoc (line p) k (s .apart) (f .1)) (all-snoc (λ j. j < p .granted) (line p) k (s .below) (f .0)),
-      length-append (line p) (k ∷ []), length-append (map indexOf (p .outgoing)) (p .incoming), length-map (p .outgoing) indexOf)
+      length-append (line p) (k ∷ []),
+      length-append (map indexOf (p .outgoing)) (p .incoming),
+      length-map (p .outgoing) indexOf,
+    )
 
 sound-put : (p : Paper) (k : ℕ) → Sound p → Fits p (put k) → Sound (step p (put k))
 sound-put p k s f =
@@ -74,7 +90,16 @@ sound-put p k s f =
     record {
       apart = subst NoDup e (nodup-snoc (line p) k (s .apart) (f .1));
       below = subst (All (λ j. j < p .granted)) e (all-snoc (λ j. j < p .granted) (line p) k (s .below) (f .0));
-      few = s .few; adds = s .adds; limit = s .limit; kept = s .kept; none = s .none; runs = s .runs; once = s .once; never = s .never }
+      few = s .few;
+      adds = s .adds;
+      limit = s .limit;
+      kept = s .kept;
+      none = s .none;
+      runs = s .runs;
+      once = s .once;
+      never = s .never;
+      low = s .low;
+    }
 
 -- the oldest incoming buffer goes from the head of one queue to the end of the other: the line stays
 pub line-filled : (o : List Pair) (k : ℕ) (i : List ℕ) (f : Frame) → lineOf o (k ∷ i) ≡ lineOf (filled (k ∷ i) f o) i
@@ -84,28 +109,50 @@ line-filled o k i f =
 sound-whole : (size granted : ℕ) (on : Bool) (r : Run) (i : List ℕ) (o : List Pair) (b : List ℕ) (t : Time)
     → Sound (paper size granted on r i o) → Fits (paper size granted on r i o) (whole b t) → Sound (step (paper size granted on r i o) (whole b t))
 sound-whole size granted on r [] o b t s f = record {
-    apart = s .apart; below = s .below; few = s .few;
-    adds = omega (arith, s .adds); limit = omega (arith, f .1);
-    kept = s .kept; none = s .none; runs = s .runs; once = s .once; never = s .never }
+  apart = s .apart;
+  below = s .below;
+  few = s .few;
+  adds = omega (arith, s .adds);
+  limit = omega (arith, f .1);
+  kept = s .kept;
+  none = s .none;
+  runs = s .runs;
+  once = s .once;
+  never = s .never;
+  low = s .low;
+}
 sound-whole size granted on r (k ∷ i) o b t s f =
     let p : Paper = paper size granted on r (k ∷ i) o in
     record {
-    apart = subst NoDup (line-filled o k i (frameOf p b t)) (s .apart);
-    below = subst (All (λ j. j < granted)) (line-filled o k i (frameOf p b t)) (s .below);
-    few = s .few;
-    adds = omega (arith, s .adds, length-append o (record { index = k; frame = frameOf p b t } ∷ []));
-    limit = omega (arith, f .1);
-    kept = s .kept; none = λ e. absurd (true≢false (sym (f .0) ∙ e)); runs = s .runs; once = s .once; never = s .never }
+      apart = subst NoDup (line-filled o k i (frameOf p b t)) (s .apart);
+      below = subst (All (λ j. j < granted)) (line-filled o k i (frameOf p b t)) (s .below);
+      few = s .few;
+      adds = omega (arith, s .adds, length-append o (record { index = k; frame = frameOf p b t } ∷ []));
+      limit = omega (arith, f .1);
+      kept = s .kept;
+      none = λ e. absurd (true≢false (sym (f .0) ∙ e));
+      runs = s .runs;
+      once = s .once;
+      never = s .never;
+      low = all-snoc (λ x. x .frame .number < runLimit) o (record { index = k; frame = frameOf p b t }) (s .low) (f .1);
+    }
 
 sound-handed : (size granted : ℕ) (on : Bool) (r : Run) (i : List ℕ) (o : List Pair)
     → Sound (paper size granted on r i o) → Fits (paper size granted on r i o) handed → Sound (step (paper size granted on r i o) handed)
 sound-handed size granted on r i [] s f = absurd (omega (arith, f))
 sound-handed size granted on r i (x ∷ o) s f = record {
-    apart = s .apart .1; below = s .below .1; few = s .few;
-    adds = omega (arith, s .adds); limit = s .limit; kept = s .kept;
-    none = λ e. absurd (omega (arith, ap length (s .none e)));
-    runs = s .runs; once = s .once;
-    never = go on refl }
+  apart = s .apart .1;
+  below = s .below .1;
+  few = s .few;
+  adds = omega (arith, s .adds);
+  limit = s .limit;
+  kept = s .kept;
+  none = λ e. absurd (omega (arith, ap length (s .none e)));
+  runs = s .runs;
+  once = s .once;
+  never = go on refl;
+  low = s .low .1;
+}
   where
     go : (a : Bool) → on ≡ a → r .ran ≡ 0 → r .handed + 1 ≡ 0
     go true e z = absurd (omega (arith, s .runs e))
@@ -116,24 +163,74 @@ sound-ended p n s h = go (p .running) refl
   where
     go : (a : Bool) → p .running ≡ a → Sound (step p (ended n))
     go true e = rw e record {
-      apart = tt; below = tt; few = h; adds = omega (arith, s .adds, s .kept e); limit = s .limit; kept = λ f. absurd (false≢true f); none = λ f. refl;
-      runs = λ f. absurd (false≢true f); once = s .once; never = s .never }
+      apart = tt;
+      below = tt;
+      few = h;
+      adds = omega (arith, s .adds, s .kept e);
+      limit = s .limit;
+      kept = λ f. absurd (false≢true f);
+      none = λ f. refl;
+      runs = λ f. absurd (false≢true f);
+      once = s .once;
+      never = s .never;
+      low = tt;
+    }
     go false e = rw e record {
-      apart = tt; below = tt; few = h; adds = omega (arith, s .adds, ap length (s .none e)); limit = s .limit; kept = λ f. absurd (false≢true f); none = λ f. refl;
-      runs = λ f. absurd (false≢true f); once = s .once; never = s .never }
+      apart = tt;
+      below = tt;
+      few = h;
+      adds = omega (arith, s .adds, ap length (s .none e));
+      limit = s .limit;
+      kept = λ f. absurd (false≢true f);
+      none = λ f. refl;
+      runs = λ f. absurd (false≢true f);
+      once = s .once;
+      never = s .never;
+      low = tt;
+    }
 
 pub sound-step : (p : Paper) (e : Event) → Sound p → Fits p e → Sound (step p e)
 sound-step p (put k) s f = sound-put p k s f
 sound-step p (whole b t) s f = sound-whole (p .size) (p .granted) (p .running) (p .run) (p .incoming) (p .outgoing) b t s f
 sound-step p damaged s f = record {
-    apart = s .apart; below = s .below; few = s .few; adds = omega (arith, s .adds); limit = omega (arith, f .1);
-    kept = s .kept; none = s .none; runs = s .runs; once = s .once; never = s .never }
+  apart = s .apart;
+  below = s .below;
+  few = s .few;
+  adds = omega (arith, s .adds);
+  limit = omega (arith, f .1);
+  kept = s .kept;
+  none = s .none;
+  runs = s .runs;
+  once = s .once;
+  never = s .never;
+  low = s .low;
+}
 sound-step p handed s f = sound-handed (p .size) (p .granted) (p .running) (p .run) (p .incoming) (p .outgoing) s f
 sound-step p begun s f = record {
-    apart = s .apart; below = s .below; few = s .few; adds = omega (arith, ap length (s .none f)); limit = omega arith;
-    kept = λ e. refl; none = λ e. absurd (true≢false e); runs = λ e. refl; once = omega arith; never = λ e. refl }
+  apart = s .apart;
+  below = s .below;
+  few = s .few;
+  adds = omega (arith, ap length (s .none f));
+  limit = omega arith;
+  kept = λ e. refl;
+  none = λ e. absurd (true≢false e);
+  runs = λ e. refl;
+  once = omega arith;
+  never = λ e. refl;
+  low = s .low;
+}
 sound-step p (ended n) s f = sound-ended p n s f
 sound-step p (sized n) s f = record {
-    apart = s .apart; below = s .below; few = s .few; adds = s .adds; limit = s .limit;
-    kept = s .kept; none = s .none; runs = s .runs; once = s .once; never = s .never }
+  apart = s .apart;
+  below = s .below;
+  few = s .few;
+  adds = s .adds;
+  limit = s .limit;
+  kept = s .kept;
+  none = s .none;
+  runs = s .runs;
+  once = s .once;
+  never = s .never;
+  low = s .low;
+}
 sound-step p idle s f = s

@@ -62,7 +62,14 @@ pub record Tied (w : World) (p : Paper) : Type 0 where
 pub tied-opened : (size : ℕ) (m : List ℕ) → Tied (opened size m) (blank size)
 unfolding freshStream noBuffers
 tied-opened size m = record {
-    size = refl; running = refl; run = refl; noted = refl; holds = holds-none; fits = omega arith; held = tt }
+  size = refl;
+  running = refl;
+  run = refl;
+  noted = refl;
+  holds = holds-none;
+  fits = omega arith;
+  held = tt;
+}
 
 -- a whole arrival is stored in the first incoming buffer, or dropped
 abbrev pub placedAs : List ℕ → ℕ → Arrival
@@ -122,8 +129,8 @@ absent w p k t h =
     let o : any (ofBuffer k) (map entry (p .outgoing)) ≡ false = subst (λ (l : List Filled). any (ofBuffer k) l ≡ false) (t .holds .outs) b in
     all-join (λ y. y ≢ k) (map indexOf (p .outgoing)) (p .incoming)
     (all-to-map indexOf (λ y. y ≢ k) (p .outgoing)
-      (all-map (λ x. ofBuffer k (entry x) ≡ false) (λ x. indexOf x ≢ k) (λ x e. eqb-false (x .index) k e) (p .outgoing)
-        (all-of-map entry (λ f. ofBuffer k f ≡ false) (p .outgoing) (none-passes (ofBuffer k) (map entry (p .outgoing)) o))))
+    (all-map (λ x. ofBuffer k (entry x) ≡ false) (λ x. indexOf x ≢ k) (λ x e. eqb-false (x .index) k e) (p .outgoing)
+    (all-of-map entry (λ f. ofBuffer k f ≡ false) (p .outgoing) (none-passes (ofBuffer k) (map entry (p .outgoing)) o))))
     (all-map (λ x. eqb x k ≡ false) (λ x. x ≢ k) (λ x e. eqb-false x k e) (p .incoming) (none-passes (λ x. eqb x k) (p .incoming) i))
 
 follows-enqueue : (w : World) (p : Paper) (k : ℕ) → Tied w p → Sound p → Follows (next w (enqueue k)) p (enqueue k) (answer w (enqueue k))
@@ -132,18 +139,31 @@ follows-enqueue w p k t s = go (leb (w .stream .queues .granted) k) refl (isInco
   where
     q : Queues
     q = w .stream .queues
+
     r : Bool → Bool → Step
     r a b = cond a (refuses NoSuchIndex (w .stream)) (cond b (refuses NotDequeued (w .stream)) (answers Done (withQueues (w .stream) (pushed (w .stream .queues) k))))
+
     go : (a : Bool) → leb (w .stream .queues .granted) k ≡ a → (b : Bool) → (isIncoming (w .stream .queues) k || isOutgoing (w .stream .queues) k) ≡ b
         → Follows (withStream w (r a b .stream)) p (enqueue k) (replied (r a b .reply))
     go true e b f = nothing w p (enqueue k) (replied (Refused NoSuchIndex)) t refl
     go false e true f = nothing w p (enqueue k) (replied (Refused NotDequeued)) t refl
     go false e false f =
         let fit : Fits p (put k) = (omega (arith, t .holds .granted, leb-false (w .stream .queues .granted) k e), absent w p k t f) in
-        record { event = put k; tells = refl; fits = fit; foretold = tt; tied = record {
-          size = t .size; running = t .running; run = t .run; noted = t .noted;
-          holds = holds-pushed q (p .granted) (p .incoming) (map entry (p .outgoing)) k (t .holds) (omega (arith, room-more p k s fit));
-          fits = t .fits; held = t .held } }
+        record {
+          event = put k;
+          tells = refl;
+          fits = fit;
+          foretold = tt;
+          tied = record {
+            size = t .size;
+            running = t .running;
+            run = t .run;
+            noted = t .noted;
+            holds = holds-pushed q (p .granted) (p .incoming) (map entry (p .outgoing)) k (t .holds) (omega (arith, room-more p k s fit));
+            fits = t .fits;
+            held = t .held;
+          };
+        }
 
 -- ---- a buffer is handed over
 
@@ -160,17 +180,20 @@ handed-run r q e h =
 tied-handed : (w : World) (size granted : ℕ) (on : Bool) (r : Run) (i : List ℕ) (o : List Pair)
     → Tied w (paper size granted on r i o) → Sound (paper size granted on r i o) → 0 < length o
     → Tied (withStream w (record { length = w .stream .length; streaming = w .stream .streaming; run = handedRun (w .stream .run); queues = popped (w .stream .queues) }))
-      (step (paper size granted on r i o) handed)
+    (step (paper size granted on r i o) handed)
 tied-handed w size granted on r i [] t s h = absurd (omega (arith, h))
 tied-handed w size granted on r i (x ∷ o) t s h = record {
-    size = t .size; running = t .running;
-    run = handed-run (w .stream .run) r (t .run) (omega (arith, s .adds, s .limit));
-    noted = t .noted;
-    holds = holds-popped (w .stream .queues) granted i (entry x) (map entry o) (t .holds);
-    fits = t .fits; held = t .held .1 }
+  size = t .size;
+  running = t .running;
+  run = handed-run (w .stream .run) r (t .run) (omega (arith, s .adds, s .limit));
+  noted = t .noted;
+  holds = holds-popped (w .stream .queues) granted i (entry x) (map entry o) (t .holds);
+  fits = t .fits;
+  held = t .held .1;
+}
 
 -- the oldest outgoing entry is that of the first pair
-first-entry : (q : Queues) (n : ℕ) (i : List ℕ) (o : List Pair) → Holds q n i (map entry o) → 0 < length o
+pub first-entry : (q : Queues) (n : ℕ) (i : List ℕ) (o : List Pair) → Holds q n i (map entry o) → 0 < length o
     → replied (Returned (oldestOutgoing q)) ≡ replied (Returned (firstOf o))
 first-entry q n i [] h l = absurd (omega arith)
 first-entry q n i (x ∷ o) h l = ap (λ (f : Filled). replied (Returned f)) (oldest-outgoing q n i (entry x) (map entry o) h)
@@ -182,16 +205,21 @@ follows-dequeue w p t s = go (eqb (w .stream .queues .granted) 0) (eqb (w .strea
     r : Bool → Bool → Step
     r a b = cond a (refuses NoBuffers (w .stream)) (cond b (refuses NothingOutgoing (w .stream))
         (answers (Returned (oldestOutgoing (w .stream .queues)))
-          (record { length = w .stream .length; streaming = w .stream .streaming; run = handedRun (w .stream .run); queues = popped (w .stream .queues) })))
+        (record { length = w .stream .length; streaming = w .stream .streaming; run = handedRun (w .stream .run); queues = popped (w .stream .queues) })))
+
     go : (a b : Bool) → eqb (w .stream .queues .done) 0 ≡ b → Follows (withStream w (r a b .stream)) p dequeue (replied (r a b .reply))
     go true b f = nothing w p dequeue (replied (Refused NoBuffers)) t refl
     go false true f = nothing w p dequeue (replied (Refused NothingOutgoing)) t refl
     go false false f =
         let some : 0 < length (p .outgoing) =
-            omega (arith, eqb-false (w .stream .queues .done) 0 f, done-is (w .stream .queues) (p .granted) (p .incoming) (map entry (p .outgoing)) (t .holds), length-map (p .outgoing) entry) in
-        record { event = handed; tells = refl; fits = some;
+        omega (arith, eqb-false (w .stream .queues .done) 0 f, done-is (w .stream .queues) (p .granted) (p .incoming) (map entry (p .outgoing)) (t .holds), length-map (p .outgoing) entry) in
+        record {
+          event = handed;
+          tells = refl;
+          fits = some;
           foretold = first-entry (w .stream .queues) (p .granted) (p .incoming) (p .outgoing) (t .holds) some;
-          tied = tied-handed w (p .size) (p .granted) (p .running) (p .run) (p .incoming) (p .outgoing) t s some }
+          tied = tied-handed w (p .size) (p .granted) (p .running) (p .run) (p .incoming) (p .outgoing) t s some;
+        }
 
 -- ---- a run begins and ends
 
@@ -201,12 +229,17 @@ follows-start w p t s = go (eqb (w .stream .queues .granted) 0) (streaming (w .s
   where
     r : Bool → Bool → Step
     r a b = cond a (refuses NoBuffers (w .stream)) (answers Done (cond b (w .stream) (started (w .stream))))
+
     go : (a b : Bool) → streaming (w .stream) ≡ b → Follows (withStream w (r a b .stream)) p start (replied (r a b .reply))
     go true b f = nothing w p start (replied (Refused NoBuffers)) t refl
     go false true f = nothing w p start (replied Done) t (ap (λ (x : Bool). cond x idle begun) (sym (t .running) ∙ f))
     go false false f = record {
-        event = begun; tells = ap (λ (x : Bool). cond x idle begun) (sym (t .running) ∙ f); fits = sym (t .running) ∙ f; foretold = tt;
-        tied = record { size = t .size; running = refl; run = refl; noted = t .noted; holds = t .holds; fits = t .fits; held = t .held } }
+      event = begun;
+      tells = ap (λ (x : Bool). cond x idle begun) (sym (t .running) ∙ f);
+      fits = sym (t .running) ∙ f;
+      foretold = tt;
+      tied = record { size = t .size; running = refl; run = refl; noted = t .noted; holds = t .holds; fits = t .fits; held = t .held };
+    }
 
 ended-run : (a on : Bool) → not a ≡ on → (r q : Run) → r ≡ q → (d n : ℕ) → d ≡ n → cond a r (stoppedRun r d) ≡ cond on (stoppedRun q n) q
 ended-run true on e r q f d n g = rw (sym e) f
@@ -217,18 +250,25 @@ tied-ended : (w : World) (p : Paper) (n : ℕ) → Tied w p → n * slotSize (p 
     → Tied (withStream w (stopped (w .stream) n)) (step p (ended n))
 unfolding stopped
 tied-ended w p n t h = record {
-    size = t .size; running = refl;
-    run = ended-run (eqb (w .stream .streaming) 0) (p .running) (t .running) (w .stream .run) (p .run) (t .run) (w .stream .queues .done) (length (p .outgoing))
+  size = t .size;
+  running = refl;
+  run = ended-run (eqb (w .stream .streaming) 0) (p .running) (t .running) (w .stream .run) (p .run) (t .run) (w .stream .queues .done) (length (p .outgoing))
       (done-is (w .stream .queues) (p .granted) (p .incoming) (map entry (p .outgoing)) (t .holds) ∙ length-map (p .outgoing) entry);
-    noted = t .noted;
-    holds = holds-empty (w .stream .queues) (p .granted) (p .incoming) (map entry (p .outgoing)) n (t .holds);
-    fits = h; held = tt }
+  noted = t .noted;
+  holds = holds-empty (w .stream .queues) (p .granted) (p .incoming) (map entry (p .outgoing)) n (t .holds);
+  fits = h;
+  held = tt;
+}
 
 follows-stop : (w : World) (p : Paper) → Tied w p → Sound p → Follows (next w stop) p stop (answer w stop)
 unfolding stopOf
 follows-stop w p t s = record {
-    event = ended (p .granted); tells = refl; fits = s .few; foretold = tt;
-    tied = subst (λ (n : ℕ). Tied (withStream w (stopped (w .stream) n)) (step p (ended (p .granted)))) (sym (t .holds .granted)) (tied-ended w p (p .granted) t (t .fits)) }
+  event = ended (p .granted);
+  tells = refl;
+  fits = s .few;
+  foretold = tt;
+  tied = subst (λ (n : ℕ). Tied (withStream w (stopped (w .stream) n)) (step p (ended (p .granted)))) (sym (t .holds .granted)) (tied-ended w p (p .granted) t (t .fits));
+}
 
 follows-request : (w : World) (p : Paper) (n : ℕ) → Tied w p → Sound p → Follows (next w (request n)) p (request n) (answer w (request n))
 unfolding requestOf
@@ -236,11 +276,14 @@ follows-request w p n t s = go (streaming (w .stream) && not (eqb n 0))
   where
     g : ℕ
     g = grantOf (w .stream .length) n (w .size)
+
     r : Bool → Step
     r a = cond a (refuses Streaming (w .stream))
         (answers (Granted (grantOf (w .stream .length) n (w .size))) (stopped (w .stream) (grantOf (w .stream .length) n (w .size))))
+
     fit : g * slotSize (p .size) ≤ length (w .memory)
     fit = subst (λ (z : ℕ). g * slotSize z ≤ length (w .memory)) (t .size) (subst (λ (l : ℕ). g * slotSize (w .size) ≤ l) (t .noted) (grant-fits (w .stream .length) n (w .size)))
+
     go : (a : Bool) → Follows (withStream w (r a .stream)) p (request n) (replied (r a .reply))
     go true = nothing w p (request n) (replied (Refused Streaming)) t refl
     go false = record { event = ended g; tells = refl; fits = grant-few (w .stream .length) n (w .size); foretold = tt; tied = tied-ended w p g t fit }
@@ -261,10 +304,21 @@ follows-resize w p n t s = go (eqb (w .stream .queues .granted) 0) refl
     go true e =
         let z : p .granted ≡ 0 = sym (t .holds .granted) ∙ eqb-true (w .stream .queues .granted) 0 e in
         let o : p .outgoing ≡ [] = none-out (p .outgoing) (p .incoming) (subst (λ (g : ℕ). All (λ k. k < g) (line p)) z (s .below)) in
-        record { event = sized n; tells = refl; fits = z; foretold = tt; tied = record {
-          size = refl; running = t .running; run = t .run; noted = t .noted; holds = t .holds;
-          fits = subst (λ (g : ℕ). g * slotSize n ≤ length (w .memory)) (sym z) (omega arith);
-          held = subst (All (Held n (w .memory))) (sym o) tt } }
+        record {
+          event = sized n;
+          tells = refl;
+          fits = z;
+          foretold = tt;
+          tied = record {
+            size = refl;
+            running = t .running;
+            run = t .run;
+            noted = t .noted;
+            holds = t .holds;
+            fits = subst (λ (g : ℕ). g * slotSize n ≤ length (w .memory)) (sym z) (omega arith);
+            held = subst (All (Held n (w .memory))) (sym o) tt;
+          };
+        }
 
 -- ---- a frame arrives
 
@@ -295,10 +349,11 @@ held-other size k m b l x g = (g .0 .0, same ∙ g .0 .1)
     same : take (length (x .frame .bytes)) (drop (slotOffset (x .index) size) (sets m (slotOffset k size) b))
         ≡ take (length (x .frame .bytes)) (drop (slotOffset (x .index) size) m)
     same = elim (decLt (x .index) k) [
-        yes lt ↦ part-before b m (slotOffset k size) (slotOffset (x .index) size) (length (x .frame .bytes))
+      | yes lt ↦ part-before b m (slotOffset k size) (slotOffset (x .index) size) (length (x .frame .bytes))
           (omega (arith, slots-apart (x .index) k size lt, slot-least size, g .0 .0))
       | no ge ↦ part-behind b m (slotOffset k size) (slotOffset (x .index) size) (length (x .frame .bytes))
-          (omega (arith, slots-apart k (x .index) size (omega (arith, g .1)), slot-least size)) ]
+          (omega (arith, slots-apart k (x .index) size (omega (arith, g .1)), slot-least size))
+    ]
 
 -- what a stored arrival leaves
 abbrev storedStream : World → List ℕ → Time → Stream
@@ -308,7 +363,7 @@ storedStream w b t =
 tied-stored : (w : World) (size granted : ℕ) (on : Bool) (r : Run) (k : ℕ) (i : List ℕ) (o : List Pair) (b : List ℕ) (t : Time)
     → Tied w (paper size granted on r (k ∷ i) o) → Sound (paper size granted on r (k ∷ i) o) → length b ≤ size
     → Tied (record { stream = storedStream w b t; size = w .size; memory = sets (w .memory) (slotOffset k size) b })
-      (step (paper size granted on r (k ∷ i) o) (whole b t))
+    (step (paper size granted on r (k ∷ i) o) (whole b t))
 tied-stored w size granted on r k i o b t x s l =
     let p : Paper = paper size granted on r (k ∷ i) o in
     let m : List ℕ = w .memory in
@@ -319,18 +374,19 @@ tied-stored w size granted on r k i o b t x s l =
     let notk : All (λ y. y .index ≢ k) o = all-of-map indexOf (λ y. y ≢ k) o (nodup-before (map indexOf o) k i (s .apart)) in
     let number : w .stream .run .accepted ≡ r .accepted = ap (λ (q : Run). q .accepted) (x .run) in
     let entries : map entry o ++ (record { index = k; number = w .stream .run .accepted; used = length b; time = t } ∷ []) ≡ map entry (o ++ (new ∷ [])) =
-        ap (λ (n : ℕ). map entry o ++ (record { index = k; number = n; used = length b; time = t } ∷ [])) number ∙ sym (map-snoc entry o new) in
+    ap (λ (n : ℕ). map entry o ++ (record { index = k; number = n; used = length b; time = t } ∷ [])) number ∙ sym (map-snoc entry o new) in
     record {
       size = x .size;
       running = x .running;
       run = stored-run (w .stream .run) r (x .run);
       noted = x .noted ∙ sym (length-sets m at b);
       holds = subst (Holds (filledOldest (w .stream .queues) (w .stream .run .accepted) (length b) t) granted i) entries
-        (holds-filled (w .stream .queues) granted k i (map entry o) (w .stream .run .accepted) (length b) t (x .holds) (omega (arith, room p s, length-map o entry)));
+          (holds-filled (w .stream .queues) granted k i (map entry o) (w .stream .run .accepted) (length b) t (x .holds) (omega (arith, room p s, length-map o entry)));
       fits = omega (arith, x .fits, length-sets m at b);
       held = all-snoc (Held size (sets m at b)) o new
-        (all-map (λ y. Held size m y × (y .index ≢ k)) (Held size (sets m at b)) (held-other size k m b l) o (all-both (Held size m) (λ y. y .index ≢ k) o (x .held) notk))
-        (l, part-stored b m at (omega (arith, slot-least size))) }
+          (all-map (λ y. Held size m y × (y .index ≢ k)) (Held size (sets m at b)) (held-other size k m b l) o (all-both (Held size m) (λ y. y .index ≢ k) o (x .held) notk))
+          (l, part-stored b m at (omega (arith, slot-least size)));
+    }
 
 -- an accepted arrival is whole or damaged, as the paper tells it
 accepted-told : (p : Paper) (b : List ℕ) (t : Time) (fl v : Bool) → p .running ≡ true → (fl && leb (length b) (p .size)) ≡ v
@@ -352,23 +408,40 @@ comes-placed w size granted on r i o b t fl lends x s f e = go i (eqb (w .stream
     z : Bool → Arrived
     z v = cond v (arrives-as arrivals.Dropped (withRun (w .stream) (droppedRun (countedRun (w .stream .run)))))
         (arrives-as (arrivals.Stored (oldestIncoming (w .stream .queues)) (w .stream .run .accepted)) (storedStream w b t))
+
     go : (i : List ℕ) (v : Bool) → eqb (w .stream .queues .queued) 0 ≡ v
         → Tied w (paper size granted on r i o) → Sound (paper size granted on r i o) → Fits (paper size granted on r i o) (whole b t)
         → cond on (arrivedWhole (paper size granted on r i o) b t fl) idle ≡ whole b t → Comes w (paper size granted on r i o) b t fl lends (z v)
-    go [] true g x s f e = record { event = whole b t; tells = e; fits = f; foretold = refl; tied = record {
-        size = x .size; running = x .running; run = dropped-run (w .stream .run) r (x .run) (omega (arith, s .adds, s .limit));
-        noted = x .noted; holds = x .holds; fits = x .fits; held = x .held } }
+    go [] true g x s f e = record {
+      event = whole b t;
+      tells = e;
+      fits = f;
+      foretold = refl;
+      tied = record {
+        size = x .size;
+        running = x .running;
+        run = dropped-run (w .stream .run) r (x .run) (omega (arith, s .adds, s .limit));
+        noted = x .noted;
+        holds = x .holds;
+        fits = x .fits;
+        held = x .held;
+      };
+    }
     go [] false g x s f e = absurd (eqb-false (w .stream .queues .queued) 0 g (queued-is (w .stream .queues) granted [] (map entry o) (x .holds)))
     go (k ∷ i) true g x s f e = absurd (omega (arith, eqb-true (w .stream .queues .queued) 0 g, queued-is (w .stream .queues) granted (k ∷ i) (map entry o) (x .holds)))
     go (k ∷ i) false g x s f e =
         let slot : sets (w .memory) (slotOffset k size) b ≡ sets (w .memory) (slotOffset (oldestIncoming (w .stream .queues)) (w .size)) b =
-            sym (ap (λ (j : ℕ). sets (w .memory) (slotOffset j (w .size)) b) (oldest-incoming (w .stream .queues) granted k i (map entry o) (x .holds))
-            ∙ ap (λ (n : ℕ). sets (w .memory) (slotOffset k n) b) (x .size)) in
+        sym (ap (λ (j : ℕ). sets (w .memory) (slotOffset j (w .size)) b) (oldest-incoming (w .stream .queues) granted k i (map entry o) (x .holds))
+        ∙ ap (λ (n : ℕ). sets (w .memory) (slotOffset k n) b) (x .size)) in
         let old : oldestIncoming (w .stream .queues) ≡ k = oldest-incoming (w .stream .queues) granted k i (map entry o) (x .holds) in
-        record { event = whole b t; tells = e; fits = f;
+        record {
+          event = whole b t;
+          tells = e;
+          fits = f;
           foretold = ap (λ (j : ℕ). arrived (arrivals.Stored j (w .stream .run .accepted))) old ∙ ap (λ (q : Run). arrived (arrivals.Stored k (q .accepted))) (x .run);
           tied = subst (λ (m : List ℕ). Tied (record { stream = storedStream w b t; size = w .size; memory = m }) (step (paper size granted on r (k ∷ i) o) (whole b t))) slot
-            (tied-stored w size granted on r k i o b t x s (f .2)) }
+              (tied-stored w size granted on r k i o b t x s (f .2));
+        }
 
 comes-accepted : (w : World) (p : Paper) (b : List ℕ) (t : Time) (fl : Bool) (lends : List ℕ) → Tied w p → Sound p → p .running ≡ true → p .run .accepted < runLimit
     → Comes w p b t fl lends (acceptedOf (withRun (w .stream) (countedRun (w .stream .run))) (w .stream .run .accepted) (length b) fl (w .size) t)
@@ -378,15 +451,29 @@ comes-accepted w p b t fl lends x s on l = go (fl && leb (length b) (w .size)) r
     z : Bool → Arrived
     z v = cond v (placedOf (withRun (w .stream) (countedRun (w .stream .run))) (w .stream .run .accepted) (length b) t)
         (arrives-as arrivals.Damaged (withRun (w .stream) (damagedRun (countedRun (w .stream .run)))))
+
     tell : (v : Bool) → (fl && leb (length b) (w .size)) ≡ v → cond (p .running) (arrivedWhole p b t fl) idle ≡ cond v (whole b t) damaged
     tell v e = accepted-told p b t fl v on (ap (λ (n : ℕ). fl && leb (length b) n) (sym (x .size)) ∙ e)
+
     go : (v : Bool) → (fl && leb (length b) (w .size)) ≡ v → Comes w p b t fl lends (z v)
     go true e =
         let short : length b ≤ p .size = omega (arith, x .size, leb-true (length b) (w .size) (and-true fl (leb (length b) (w .size)) e .1)) in
         comes-placed w (p .size) (p .granted) (p .running) (p .run) (p .incoming) (p .outgoing) b t fl lends x s (on, l, short) (tell true e)
-    go false e = record { event = damaged; tells = tell false e; fits = (on, l); foretold = tt; tied = record {
-        size = x .size; running = x .running; run = damaged-run (w .stream .run) (p .run) (x .run) (omega (arith, s .adds, s .limit));
-        noted = x .noted; holds = x .holds; fits = x .fits; held = x .held } }
+    go false e = record {
+      event = damaged;
+      tells = tell false e;
+      fits = (on, l);
+      foretold = tt;
+      tied = record {
+        size = x .size;
+        running = x .running;
+        run = damaged-run (w .stream .run) (p .run) (x .run) (omega (arith, s .adds, s .limit));
+        noted = x .noted;
+        holds = x .holds;
+        fits = x .fits;
+        held = x .held;
+      };
+    }
 
 -- with the memory lent
 comes-lent : (w : World) (p : Paper) (b : List ℕ) (t : Time) (fl : Bool) (lends : List ℕ) → Tied w p → Sound p
@@ -399,6 +486,7 @@ comes-lent w p b t fl lends x s =
     z a c d = cond (not a) (arrives-as (arrivals.Refused MemoryLength) (w .stream)) (cond (not c) (arrives-as arrivals.Ignored (w .stream))
         (cond d (arrives-as (arrivals.Refused RunFull) (w .stream))
         (acceptedOf (withRun (w .stream) (countedRun (w .stream .run))) (w .stream .run .accepted) (length b) fl (w .size) t)))
+
     go : (a : Bool) → a ≡ true → (c : Bool) → streaming (w .stream) ≡ c → (d : Bool) → leb runLimit (w .stream .run .accepted) ≡ d → Comes w p b t fl lends (z a c d)
     go false e c f d g = absurd (false≢true e)
     go true e false f d g = nothing w p (arrival b t fl lends) (arrived arrivals.Ignored) x (ap (λ (v : Bool). cond v (arrivedWhole p b t fl) idle) (sym (x .running) ∙ f))
@@ -409,7 +497,7 @@ comes-lent w p b t fl lends x s =
 -- with something of another length
 comes-other : (w : World) (p : Paper) (b : List ℕ) (t : Time) (fl : Bool) (lends : List ℕ) → Tied w p → length lends ≢ length (w .memory)
     → Follows (withStream w (arrivalOf (w .stream) (length lends) (length b) fl (w .size) t .stream)) p (arrival b t fl lends)
-      (arrived (arrivalOf (w .stream) (length lends) (length b) fl (w .size) t .arrival))
+    (arrived (arrivalOf (w .stream) (length lends) (length b) fl (w .size) t .arrival))
 unfolding arrivalOf
 comes-other w p b t fl lends x h = rw (ne-eqb (length lends) (w .stream .length) (λ e. h (e ∙ x .noted))) (nothing w p (arrival b t fl lends) (arrived (arrivals.Refused MemoryLength)) x refl)
 
@@ -419,6 +507,7 @@ follows-arrival w p b t fl lends x s = go (eqb (length lends) (length (w .memory
   where
     r : Bool → Arrived
     r v = arrivalOf (w .stream) (length (cond v (w .memory) lends)) (length b) fl (w .size) t
+
     go : (v : Bool) → eqb (length lends) (length (w .memory)) ≡ v
         → Follows (record { stream = r v .stream; size = w .size; memory = cond v (writtenBy (r v .arrival) (w .size) (w .memory) b) (w .memory) }) p (arrival b t fl lends) (arrived (r v .arrival))
     go true e = comes-lent w p b t fl lends x s

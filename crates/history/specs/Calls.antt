@@ -82,10 +82,15 @@ next w (arrival b t whole lends) =
     record {
       stream = arrives w b t whole lends .stream;
       size = w .size;
-      memory = cond (eqb (length lends) (length (w .memory))) (writtenBy (arrives w b t whole lends .arrival) (w .size) (w .memory) b) (w .memory) }
+      memory = cond (eqb (length lends) (length (w .memory))) (writtenBy (arrives w b t whole lends .arrival) (w .size) (w .memory) b) (w .memory);
+    }
 next w other = w
+
+-- what a list of calls leaves, on any machine: each gets what the one before left
+abbrev pub leaves : {W C : Type 0} → (W → C → W) → W → List C → W
+leaves n w [] = w
+leaves n w (c ∷ cs) = leaves n (n w c) cs
 
 -- what a list of calls leaves
 abbrev pub after : World → List Call → World
-after w [] = w
-after w (c ∷ cs) = after (next w c) cs
+after w cs = leaves next w cs

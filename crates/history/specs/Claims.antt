@@ -91,7 +91,7 @@ Stores = (size : ℕ) (m : List ℕ) (before : List Call) (k : ℕ) (mid : List 
     → wholes (since size m before k mid) ≡ waitingBefore size m before k mid
     → told (paperAfter size m (upTo size m before k mid)) (arrival b t w lends) (answer (worldAfter size m (upTo size m before k mid)) (arrival b t w lends)) ≡ whole b t
     → (answer (worldAfter size m (upTo size m before k mid)) (arrival b t w lends)
-        ≡ arrived (Stored k (paperAfter size m (upTo size m before k mid) .run .accepted)))
+    ≡ arrived (Stored k (paperAfter size m (upTo size m before k mid) .run .accepted)))
     × (slotBytes (next (worldAfter size m (upTo size m before k mid)) (arrival b t w lends)) k (length b) ≡ b)
 
 -- the whole accepted arrival among calls before which n whole ones came
@@ -121,8 +121,8 @@ Returns = (size : ℕ) (m : List ℕ) (before : List Call) (k : ℕ) (mid : List
 abbrev pub AddsUp : Type 0
 AddsUp = (size : ℕ) (m : List ℕ) (cs : List Call)
     → (paperAfter size m cs .run .accepted
-        ≡ paperAfter size m cs .run .handed + length (paperAfter size m cs .outgoing) + paperAfter size m cs .run .damaged
-          + paperAfter size m cs .run .dropped + paperAfter size m cs .run .discarded)
+    ≡ paperAfter size m cs .run .handed + length (paperAfter size m cs .outgoing) + paperAfter size m cs .run .damaged
+    + paperAfter size m cs .run .dropped + paperAfter size m cs .run .discarded)
     × (worldAfter size m cs .stream .run ≡ paperAfter size m cs .run)
 
 -- ---- e. the verdicts
@@ -138,5 +138,5 @@ Verdicts = (size : ℕ) (m : List ℕ) (cs : List Call)
     → ((verdictOf (worldAfter size m cs .stream) ≡ Running) ⇔ (paperAfter size m cs .running ≡ true))
     × ((verdictOf (worldAfter size m cs .stream) ≡ Blank) ⇔ ((paperAfter size m cs .running ≡ false) × (paperAfter size m cs .run .handed ≡ 0)))
     × ((verdictOf (worldAfter size m cs .stream) ≡ Gaps)
-        ⇔ ((paperAfter size m cs .running ≡ false) × (0 < paperAfter size m cs .run .handed) × (paperAfter size m cs .run .handed < paperAfter size m cs .run .accepted)))
+    ⇔ ((paperAfter size m cs .running ≡ false) × (0 < paperAfter size m cs .run .handed) × (paperAfter size m cs .run .handed < paperAfter size m cs .run .accepted)))
     × ((verdictOf (worldAfter size m cs .stream) ≡ Complete) ⇔ AllHandedOver (paperAfter size m cs))

@@ -159,10 +159,14 @@ abbrev pub noted : Paper → List Event → Paper
 noted p [] = p
 noted p (e ∷ es) = noted (step p e) es
 
+-- the events that a list of calls and their answers tell, on any machine: how it answers, what it leaves, what that tells
+abbrev pub tells : {W C A : Type 0} → (W → C → A) → (W → C → W) → (Paper → C → A → Event) → W → Paper → List C → List Event
+tells a n t w p [] = []
+tells a n t w p (c ∷ cs) = t p c (a w c) ∷ tells a n t (n w c) (step p (t p c (a w c))) cs
+
 -- the events that a list of calls and their answers tell
 abbrev pub events : World → Paper → List Call → List Event
-events w p [] = []
-events w p (c ∷ cs) = told p c (answer w c) ∷ events (next w c) (step p (told p c (answer w c))) cs
+events w p cs = tells answer next told w p cs
 
 -- ---- counting events
 

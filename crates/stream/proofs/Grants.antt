@@ -23,8 +23,9 @@ pub grant-fits : (length count size : ℕ) → grantOf length count size * slotS
 unfolding grantOf
 grant-fits length count size =
     elim (eqb (slotSize size) 0) as (λ b. cond b 0 (min count (min 32 (length / slotSize size))) * slotSize size ≤ length) [
-      true ↦ omega arith
-    | false ↦ less (min count (min 32 (length / slotSize size))) (omega arith) ]
+      | true ↦ omega arith
+      | false ↦ less (min count (min 32 (length / slotSize size))) (omega arith)
+    ]
   where
     less : (g : ℕ) → g ≤ length / slotSize size → g * slotSize size ≤ length
     less g h = omega (arith, mul-le-mul-right (slotSize size) h, div-mul-le-self length (slotSize size))

@@ -1,4 +1,4 @@
-// Frames that arrive.
+// Frames that arrive, each kind by its letter.
 use crate::frame;
 use crate::say;
 use crate::scene;
@@ -7,9 +7,38 @@ use arrival::Arrival;
 use arrival::Arrived;
 use buffers::Time;
 
+fn kind(c: u8) {
+    match c {
+        b'x' => say::text(b" arrival one byte short"),
+        b'y' => say::text(b" arrival one byte long"),
+        b'p' => say::text(b" arrival one byte short, called whole"),
+        b'g' => say::text(b" arrival one byte long, called whole"),
+        b'm' => say::text(b" arrival at -1 microseconds"),
+        b'n' => say::text(b" arrival at 1000000 microseconds"),
+        _ => say::text(b" arrival"),
+    }
+}
+
+fn length(c: u8, size: u32) -> u32 {
+    match c {
+        b'x' | b'p' => std::num::wrapping_sub_u32(size, 1),
+        b'y' | b'g' => std::num::wrapping_add_u32(size, 1),
+        _ => size,
+    }
+}
+
 // A small number as a signed one.
 fn small(n: u32) -> i32 {
     if n < 1000000 { n as i32 } else { 0 }
+}
+
+// The number of the arrival, which is what its bytes go by too.
+fn microseconds(c: u8, number: u32) -> i32 {
+    match c {
+        b'm' => -1,
+        b'n' => 1000000,
+        _ => small(number),
+    }
 }
 
 fn answer(a: Arrival) {
@@ -33,72 +62,42 @@ fn after(w: Scene, r: Arrived) -> Scene {
     scene::with(w, stream)
 }
 
-// A frame of n bytes arrives, taken at this time.
-fn arrive(w: Scene, memory: &mut [u8], n: u32, time: Time) -> Scene {
+// By the rule of pictures, or by word of the caller.
+fn is_whole(c: u8, n: u64, size: u32, time: Time) -> bool {
+    match c {
+        b'p' | b'g' => true,
+        _ => arrival::whole_picture(n, size, time),
+    }
+}
+
+// A frame arrives, taken at this time.
+fn arrive(w: Scene, memory: &mut [u8], c: u8, time: Time) -> Scene {
     let mut space = [0u8; 8193];
+    let n = length(c, w.size);
     frame::fill(&mut space, n, w.arrivals);
     let bytes = wire::part(&space, 0, n as usize);
     let s = w.stream;
-    let whole = arrival::whole_picture(bytes.len() as u64, w.size, time);
+    let whole = is_whole(c, bytes.len() as u64, w.size, time);
     let r = arrival::arrive(s, memory, bytes, whole, w.size, time);
     after(w, r)
 }
 
-// The scene with one arrival more.
-fn counted(w: Scene) -> Scene {
-    let mut next = w;
-    next.arrivals = std::num::wrapping_add_u32(w.arrivals, 1);
-    next
-}
-
-// A frame of n bytes, taken now.
-fn now(w: Scene, memory: &mut [u8], n: u32) -> Scene {
-    let next = counted(w);
+// The next frame arrives.
+pub(crate) fn next(w: Scene, memory: &mut [u8], c: u8) -> Scene {
+    let number = std::num::wrapping_add_u32(w.arrivals, 1);
+    let mut counted = w;
+    counted.arrivals = number;
     let time = Time {
-        seconds: small(next.clock),
-        microseconds: small(next.arrivals),
+        seconds: small(w.clock),
+        microseconds: microseconds(c, number),
     };
-    arrive(next, memory, n, time)
-}
-
-// A frame of the right length with these microseconds.
-fn at(w: Scene, memory: &mut [u8], microseconds: i32) -> Scene {
-    let next = counted(w);
-    let time = Time {
-        seconds: small(next.clock),
-        microseconds,
-    };
-    arrive(next, memory, next.size, time)
-}
-
-pub(crate) fn whole(w: Scene, memory: &mut [u8]) -> Scene {
-    say::text(b" arrival");
-    now(w, memory, w.size)
-}
-
-pub(crate) fn short(w: Scene, memory: &mut [u8]) -> Scene {
-    say::text(b" arrival one byte short");
-    now(w, memory, std::num::wrapping_sub_u32(w.size, 1))
-}
-
-pub(crate) fn long(w: Scene, memory: &mut [u8]) -> Scene {
-    say::text(b" arrival one byte long");
-    now(w, memory, std::num::wrapping_add_u32(w.size, 1))
-}
-
-pub(crate) fn early(w: Scene, memory: &mut [u8]) -> Scene {
-    say::text(b" arrival at -1 microseconds");
-    at(w, memory, -1)
-}
-
-pub(crate) fn late(w: Scene, memory: &mut [u8]) -> Scene {
-    say::text(b" arrival at 1000000 microseconds");
-    at(w, memory, 1000000)
+    kind(c);
+    arrive(counted, memory, c, time)
 }
 
 // With another memory than the stream was opened over.
 pub(crate) fn elsewhere(w: Scene) -> Scene {
     let mut other = [0u8; 100];
-    say::text(b" arrival with a memory of 100");
-    now(w, &mut other, w.size)
+    say::text(b" with a memory of 100,");
+    next(w, &mut other, b'w')
 }

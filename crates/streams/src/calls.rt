@@ -105,6 +105,19 @@ pub(crate) fn query(w: Scene, k: u32) -> Scene {
     w
 }
 
+// What became of the arrivals of the last run.
+pub(crate) fn record(w: Scene) -> Scene {
+    let s = w.stream;
+    let run = s.run;
+    say::long(b" record: accepted ", run.accepted);
+    say::long(b" handed ", run.handed);
+    say::long(b" damaged ", run.damaged);
+    say::long(b" dropped ", run.dropped);
+    say::long(b" discarded ", run.discarded);
+    say::text(b";");
+    w
+}
+
 pub(crate) fn verdict(w: Scene) -> Scene {
     let s = w.stream;
     let v = status::film_verdict(s);

@@ -1,7 +1,10 @@
-// A list of events: a letter for each, a number right before the letter where the event has one.
-//   r REQBUFS, b QUERYBUF, q QBUF, d DQBUF, s STREAMON, t STREAMOFF, v the verdict
-//   w a whole frame arrives, x one byte short, y one byte long, m at -1 microseconds, n at 1,000,000, l with another memory
+// A table of lists: a line with the title of a list, a line with its events. An event is a letter, with a number right before it
+// where it has one:
+//   r REQBUFS, b QUERYBUF, q QBUF, d DQBUF, s STREAMON, t STREAMOFF, v the verdict, h the record of the run
+//   w a whole frame arrives, x one byte short, y one byte long, m at -1 microseconds, n at 1,000,000, l with another memory,
+//   p one byte short but called whole, g one byte long but called whole
 //   z another frame size, c another second on the clock, / a new line
+//   a the run has accepted 4,294,967,293 arrivals: a count that no list could reach
 use crate::arrivals;
 use crate::calls;
 use crate::say;
@@ -36,6 +39,26 @@ fn clocked(w: Scene, second: u32) -> Scene {
     next
 }
 
+fn near_limit(w: Scene) -> Scene {
+    let mut s = w.stream;
+    s.run.accepted = 4294967293;
+    say::text(b" accepted 4294967293;");
+    scene::with(w, s)
+}
+
+fn setting(w: Scene, c: u8, n: u32) -> Scene {
+    match c {
+        b'z' => resized(w, n),
+        b'c' => clocked(w, n),
+        b'a' => near_limit(w),
+        b'/' => {
+            say::text(b"\n");
+            w
+        }
+        _ => w,
+    }
+}
+
 fn call(w: Scene, memory: &[u8], c: u8, n: u32) -> Scene {
     match c {
         b'r' => calls::request(w, n, memory),
@@ -45,52 +68,53 @@ fn call(w: Scene, memory: &[u8], c: u8, n: u32) -> Scene {
         b's' => calls::start(w, memory),
         b't' => calls::stop(w, memory),
         b'v' => calls::verdict(w),
+        b'h' => calls::record(w),
         _ => setting(w, c, n),
     }
 }
 
-fn setting(w: Scene, c: u8, n: u32) -> Scene {
+fn event(w: Scene, memory: &mut [u8], c: u8) -> Scene {
     match c {
-        b'z' => resized(w, n),
-        b'c' => clocked(w, n),
-        b'/' => {
-            say::text(b"\n");
-            w
-        }
-        _ => w,
-    }
-}
-
-fn event(w: Scene, memory: &mut [u8], c: u8, n: u32) -> Scene {
-    match c {
-        b'w' => arrivals::whole(w, memory),
-        b'x' => arrivals::short(w, memory),
-        b'y' => arrivals::long(w, memory),
-        b'm' => arrivals::early(w, memory),
-        b'n' => arrivals::late(w, memory),
+        b'w' | b'x' | b'y' | b'm' | b'n' | b'p' | b'g' => arrivals::next(w, memory, c),
         b'l' => arrivals::elsewhere(w),
-        _ => call(w, memory, c, n),
+        _ => call(w, memory, c, w.number),
     }
 }
 
-// The events of a list, one after the other.
-pub(crate) fn run(w: Scene, memory: &mut [u8], list: &[u8]) -> Scene {
-    let mut scene = w;
-    let mut n: u32 = 0;
+// A byte of a title is said as it stands. The events follow its end.
+fn title(w: Scene, c: u8) -> Scene {
+    let text = [c];
+    let mut next = w;
+    next.title = c != b'\n';
+    say::text(&text);
+    next
+}
+
+// A byte of a list: the end of it, or of an event. A list has a stream of its own.
+fn listed(w: Scene, memory: &mut [u8], c: u8) -> Scene {
+    if c == b'\n' {
+        say::text(b"\n");
+        return scene::opened(memory.len() as u64);
+    }
+    let mut next = event(w, memory, c);
+    next.number = number_after(w.number, c);
+    next
+}
+
+fn byte(w: Scene, memory: &mut [u8], c: u8) -> Scene {
+    if w.title {
+        title(w, c)
+    } else {
+        listed(w, memory, c)
+    }
+}
+
+// The lists of a table, one after the other.
+pub(crate) fn table(memory: &mut [u8], lists: &[u8]) {
+    let mut scene = scene::opened(memory.len() as u64);
     let mut i: usize = 0;
-    while i < list.len() {
-        scene = event(scene, memory, list[i], n);
-        n = number_after(n, list[i]);
+    while i < lists.len() {
+        scene = byte(scene, memory, lists[i]);
         i += 1;
     }
-    scene
-}
-
-// A list with its title, over a stream just opened.
-pub(crate) fn list(memory: &mut [u8], title: &[u8], events: &[u8]) {
-    let w = scene::opened(memory.len() as u64);
-    say::text(title);
-    say::text(b"\n");
-    run(w, memory, events);
-    say::text(b"\n");
 }

@@ -1,4 +1,4 @@
-// What a list of events goes through: the stream, and what the next arrival depends on.
+// What a list of events goes through: the stream, what the next arrival depends on, and how far the list is read.
 use stream::Stream;
 
 pub(crate) struct Scene {
@@ -6,9 +6,11 @@ pub(crate) struct Scene {
     pub(crate) size: u32,
     pub(crate) clock: u32,
     pub(crate) arrivals: u32,
+    pub(crate) title: bool,
+    pub(crate) number: u32,
 }
 
-// A stream just opened, frames of 64 bytes, five o'clock, no arrival yet.
+// A stream just opened, frames of 64 bytes, five seconds on the clock, no arrival yet, and the title of a list to come.
 pub(crate) fn opened(length: u64) -> Scene {
     let stream = stream::fresh(length);
     Scene {
@@ -16,6 +18,8 @@ pub(crate) fn opened(length: u64) -> Scene {
         size: 64,
         clock: 5,
         arrivals: 0,
+        title: true,
+        number: 0,
     }
 }
 

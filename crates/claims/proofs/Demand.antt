@@ -1,0 +1,315 @@
+-- Demand 3 holds.
+use mathlib.Core.Path.{_≡_, refl, sym, ap, _∙_, subst}
+use mathlib.Core.Bool.{Bool, true, false, cond, true≢false, false≢true}
+use Prim.Native.Nat.{ℕ, _+_, _*_, _^_, _≤_, _<_}
+use native.Mathlib.Omega.{arith}
+use lib.Dec.{eqb}
+use mathlib.Core.List.{List, [], _∷_, _++_, map, append-assoc}
+use lib.ListN.{length, take, drop}
+use Rattle.wire.specs.Words.{wordAt}
+use Rattle.wire.specs.Signed.{signedAt}
+use Rattle.ioctl.specs.Table.{requestOf}
+use Rattle.ioctl.specs.declared.table.Call.{Call as Asked}
+use Rattle.ioctl.specs.declared.table.Call.the-variants.{Unknown, Querycap, EnumFmt, GFmt, SFmt, TryFmt, Reqbufs, Querybuf, Qbuf, Dqbuf, Streamon, Streamoff, GCtrl, SCtrl, Queryctrl, Cropcap, GCrop, SCrop}
+use Rattle.format.proofs.Bounds.{image-fits}
+use Rattle.geometry.specs.Geometry.{lineAlignment}
+use Rattle.buffers.specs.declared.Time.{Time}
+use Rattle.buffers.specs.declared.Filled.{Filled}
+use Rattle.buffers.specs.Slot.{slotSize, slotOffset}
+use Rattle.buffers.proofs.Slots.{slots-apart}
+use Rattle.arrival.specs.declared.Arrival.the-variants as arrivals
+use Rattle.arrival.specs.Arrivals.{runLimit}
+use Rattle.arrival.specs.Picture.{wholePicture}
+use Rattle.status.specs.declared.Status.{Status}
+use Rattle.status.specs.declared.Verdict.{Verdict}
+use Rattle.status.specs.declared.Verdict.the-variants.{Blank, Complete}
+use Rattle.status.specs.Buffer.{describedOf, returnedOf}
+use Rattle.status.specs.Film.{verdictOf}
+use Rattle.replies.specs.Replies.{bufferReply}
+use Rattle.replies.proofs.Words.{buffer-index, buffer-used, buffer-number, buffer-offset, buffer-seconds, buffer-microseconds}
+use Rattle.state.specs.State.{frameSize}
+use Rattle.device.specs.Opening.{longestMemory}
+use Rattle.device.specs.Film.{deviceVerdict}
+use Rattle.history.specs.Paper.{Frame, Pair, Paper, Event, indexOf, blank, refusedArrival, frameOf, filled, step, noted, wholes, dequeues, Calm}
+use Rattle.history.specs.Paper.Event.{put, whole, damaged, handed, begun, ended, sized, idle}
+use Rattle.history.specs.Claims.{_⇔_, AllHandedOver}
+use Rattle.history.proofs.Lists.{All, all-append}
+use Rattle.history.proofs.Sound.{Sound, Fits}
+use Rattle.history.proofs.Tied.{Tied, Held, entry, placedAs, firstOf}
+use Rattle.history.proofs.Every.{Kept}
+use Rattle.history.proofs.Order.{At, Leaves, pairOf, comes-first, leaves}
+use Rattle.history.proofs.Machine.{leaves-append, noted-tells, Cut, cut, keeps-after, legal-tells}
+use Rattle.history.proofs.InOrder.{isWhole, never}
+use Rattle.history.proofs.Meanings.{complete-exactly}
+use Rattle.claims.specs.Calls.{Call, Reply, Box, opened, timeOf, asks, arrives, reply, next, after}
+use Rattle.claims.specs.Calls.Call.{request, arrival}
+use Rattle.claims.specs.Calls.Reply.{answered, taken}
+use Rattle.claims.specs.Words.{requestTold, arrivalTold, told, events}
+use Rattle.claims.specs.Claims.{openingSize, paperAfter, boxAfter, queued, upTo, since, i, o, Accepted, StoredInIt, Arrival, ReturnedWithIt, Demand3}
+use Rattle.claims.proofs.Steps.{view, Timed, Safe, Foretold}
+use Rattle.claims.proofs.Open.{fits-next, foretold-next, safe-next}
+use Rattle.claims.proofs.Shut.{Shut, shut-request, shut-next, Begun, begins}
+
+-- ---- at one moment
+
+-- the first incoming buffer is k: a whole arrival is stored there
+stored-now : (b : Box) (p : Paper) (k : ℕ) (r : List ℕ) (f : List ℕ) (x y : ℕ) (other : List ℕ) → Safe b p → p .incoming ≡ k ∷ r
+    → told p (arrival f x y other) (reply b (arrival f x y other)) ≡ whole f (timeOf x y)
+    → (reply b (arrival f x y other) ≡ taken (arrivals.Stored k (p .run .accepted)))
+    × (take (length f) (drop (slotOffset k (p .size)) (next b (arrival f x y other) .memory)) ≡ f)
+stored-now b p k r f x y other s e h =
+    let c : Call = arrival f x y other in
+    let a : reply b c ≡ taken (placedAs (p .incoming) (p .run .accepted)) = subst (λ (v : Event). Foretold p v (reply b c)) h (foretold-next b p c s) in
+    let n : Tied (view (next b c)) (step p (whole f (timeOf x y))) = subst (λ (v : Event). Tied (view (next b c)) (step p v)) h (safe-next b p c s .kept .tied) in
+    let m : List ℕ = next b c .memory in
+    let all : All (Held (p .size) m) (filled (k ∷ r) (frameOf p f (timeOf x y)) (p .outgoing)) =
+    subst (λ (l : List ℕ). All (Held (p .size) m) (filled l (frameOf p f (timeOf x y)) (p .outgoing))) e (n .held) in (
+      a ∙ ap (λ (l : List ℕ). taken (placedAs l (p .run .accepted))) e,
+      all-append (Held (p .size) m) (p .outgoing) (pairOf k p f (timeOf x y) ∷ []) all .1 .0 .1,
+    )
+
+-- What the answer of a dequeue says of x, the pair that it hands over.
+record Says (b : Box) (p : Paper) (x : Pair) (a : List ℕ) : Type 0 where
+  index : wordAt a 0 ≡ x .index
+  number : wordAt a 44 ≡ x .frame .number
+  used : wordAt a 8 ≡ length (x .frame .bytes)
+  seconds : signedAt a 20 ≡ x .frame .time .seconds
+  microseconds : signedAt a 24 ≡ x .frame .time .microseconds
+  bytes : take (length (x .frame .bytes)) (drop (wordAt a 52) (b .memory)) ≡ x .frame .bytes
+
+says : (b : Box) (p : Paper) (x : Pair) (r : List Pair) → Safe b p → p .outgoing ≡ x ∷ r → Says b p x (bufferReply (returnedOf (entry x) (p .size)))
+unfolding returnedOf describedOf frameSize
+says b p x r s e =
+    let st : Status = returnedOf (entry x) (p .size) in
+    let held : Held (p .size) (b .memory) x = subst (All (Held (p .size) (b .memory))) e (s .kept .tied .held) .0 in
+    let low : x .frame .number < runLimit = subst (All (λ y. y .frame .number < runLimit)) e (s .kept .sound .low) .0 in
+    let timed : Timed (x .frame .time) = subst (All (λ y. Timed (y .frame .time))) e (s .timed) .0 in
+    let below : x .index < p .granted = subst (λ (l : List Pair). All (λ k. k < p .granted) (map indexOf l ++ p .incoming)) e (s .kept .sound .below) .0 in
+    let image : p .size ≤ 302764032 = omega (arith, s .kept .tied .size, image-fits (b .state .format) (lineAlignment (b .sheet))) in
+    let at : slotOffset (x .index) (p .size) < 2 ^ 32 = omega (arith, slots-apart (x .index) (p .granted) (p .size) below, s .kept .tied .fits, s .short) in
+    record {
+      index = buffer-index st (omega (arith, below, s .kept .sound .few));
+      number = buffer-number st (omega (arith, low));
+      used = buffer-used st (omega (arith, held .0, image));
+      seconds = buffer-seconds st (timed .0);
+      microseconds = buffer-microseconds st (timed .1);
+      bytes = ap (λ (n : ℕ). take (length (x .frame .bytes)) (drop n (b .memory))) (buffer-offset st at) ∙ held .1;
+    }
+
+-- the first outgoing pair is x: an accepted DQBUF hands it over
+returned-now : (b : Box) (p : Paper) (x : Pair) (r : List Pair) (v : ℕ) (c a : List ℕ) → Safe b p → p .outgoing ≡ x ∷ r
+    → requestOf v .call ≡ Dqbuf → reply b (request v c) ≡ answered 0 a → Says b p x a
+returned-now b p x r v c a s e w h =
+    let told-handed : told p (request v c) (reply b (request v c)) ≡ handed =
+    ap (told p (request v c)) h ∙ ap (λ (call : Asked). requestTold p call c a) w in
+    let g : reply b (request v c) ≡ answered 0 (bufferReply (returnedOf (firstOf (p .outgoing)) (p .size))) =
+    subst (λ (z : Event). Foretold p z (reply b (request v c))) told-handed (foretold-next b p (request v c) s) in
+    let q : answered 0 (bufferReply (returnedOf (entry x) (p .size))) ≡ answered 0 a =
+    sym (g ∙ ap (λ (l : List Pair). answered 0 (bufferReply (returnedOf (firstOf l) (p .size)))) e) ∙ h in
+    subst (Says b p x) (cc q) (says b p x r s e)
+
+-- an accepted DQBUF found a filled buffer
+some-handed : (b : Box) (p : Paper) (v : ℕ) (c a : List ℕ) → Safe b p → requestOf v .call ≡ Dqbuf → reply b (request v c) ≡ answered 0 a → 0 < length (p .outgoing)
+some-handed b p v c a s w h =
+    subst (Fits p) (ap (told p (request v c)) h ∙ ap (λ (call : Asked). requestTold p call c a) w) (fits-next b p (request v c) s)
+
+-- ---- the call behind a whole arrival
+
+record IsArrival (c : Call) (f : List ℕ) (t : Time) : Type 0 where
+  seconds : ℕ
+  microseconds : ℕ
+  other : List ℕ
+  is : c ≡ arrival f seconds microseconds other
+  time : timeOf seconds microseconds ≡ t
+
+-- no request tells of one
+not-whole : (p : Paper) (call : Asked) (a b : List ℕ) → isWhole (requestTold p call a b) ≡ false
+not-whole p Unknown a b = refl
+not-whole p Querycap a b = refl
+not-whole p EnumFmt a b = refl
+not-whole p GFmt a b = refl
+not-whole p SFmt a b = refl
+not-whole p TryFmt a b = refl
+not-whole p Reqbufs a b = refl
+not-whole p Querybuf a b = refl
+not-whole p Qbuf a b = refl
+not-whole p Dqbuf a b = refl
+not-whole p Streamon a b = elim (p .running) as (λ x. isWhole (cond x idle begun) ≡ false) [ true ↦ refl | false ↦ refl ]
+not-whole p Streamoff a b = refl
+not-whole p GCtrl a b = refl
+not-whole p SCtrl a b = refl
+not-whole p Queryctrl a b = refl
+not-whole p Cropcap a b = refl
+not-whole p GCrop a b = refl
+not-whole p SCrop a b = refl
+
+whole-call : (b : Box) (p : Paper) (c : Call) (f : List ℕ) (t : Time) → told p c (reply b c) ≡ whole f t → IsArrival c f t
+whole-call b p (request w a) f t h = go (eqb (asks b w a .number) 0) h
+  where
+    go : (x : Bool) → cond x (requestTold p (requestOf w .call) a (asks b w a .argument)) idle ≡ whole f t → IsArrival (request w a) f t
+    go true e = never (requestTold p (requestOf w .call) a (asks b w a .argument)) f t (not-whole p (requestOf w .call) a (asks b w a .argument)) e
+    go false e = never idle f t refl e
+whole-call b p (arrival g x y other) f t h = go (refusedArrival (arrives b g x y other .arrival)) (p .running) (wholePicture (length g) (p .size) (timeOf x y)) h
+  where
+    go : (u v w : Bool) → cond u idle (cond v (cond w (whole g (timeOf x y)) damaged) idle) ≡ whole f t → IsArrival (arrival g x y other) f t
+    go true v w e = never idle f t refl e
+    go false false w e = never idle f t refl e
+    go false true false e = never damaged f t refl e
+    go false true true e = record { seconds = x; microseconds = y; other = other; is = cc e; time = cc e }
+
+arrival-of : (b : Box) (p : Paper) (cs : List Call) (n : ℕ) (a : At (events b p cs) n) (c : Cut reply next told b p cs (a .front) (whole (a .bytes) (a .time)))
+    → IsArrival (c .call) (a .bytes) (a .time) → Arrival b p cs n
+arrival-of b p cs n a c k = record {
+  front = c .fore;
+  frame = a .bytes;
+  seconds = k .seconds;
+  microseconds = k .microseconds;
+  other = k .other;
+  back = c .aft;
+  is = rw (k .is) at (c .is);
+  accepted = rw (k .is) at (c .tells-call) ∙ ap (whole (a .bytes)) (sym (k .time));
+  place = ap wholes (c .tells-front) ∙ a .place;
+}
+
+-- ---- from the moment that k is handed in
+
+safe-after : (cs : List Call) (b : Box) (p : Paper) → Safe b p → Safe (after b cs) (noted p (events b p cs))
+safe-after = keeps-after reply next told Safe safe-next
+
+stores-at : (b : Box) (p : Paper) (k : ℕ) (mid : List Call) (f : List ℕ) (x y : ℕ) (other : List ℕ) → Safe b (step p (put k))
+    → Calm (events b (step p (put k)) mid) → wholes (events b (step p (put k)) mid) ≡ length (p .incoming)
+    → told (noted (step p (put k)) (events b (step p (put k)) mid)) (arrival f x y other) (reply (after b mid) (arrival f x y other)) ≡ whole f (timeOf x y)
+    → (reply (after b mid) (arrival f x y other) ≡ taken (arrivals.Stored k (noted (step p (put k)) (events b (step p (put k)) mid) .run .accepted)))
+    × (take (length f) (drop (slotOffset k (noted (step p (put k)) (events b (step p (put k)) mid) .size)) (next (after b mid) (arrival f x y other) .memory)) ≡ f)
+stores-at b p k mid f x y other s c n h =
+    let (r, e) = comes-first p k (events b (step p (put k)) mid) c n in
+    stored-now (after b mid) (noted (step p (put k)) (events b (step p (put k)) mid)) k r f x y other (safe-after mid b (step p (put k)) s) e h
+
+-- what comes back: the arrival before which n whole ones came
+abbrev ComesBack : Box → Paper → ℕ → List Call → List ℕ → ℕ → Type 0
+ComesBack b q k mid a n =
+    (r : Arrival b q mid n)
+    × (wordAt a 0 ≡ k)
+    × (wordAt a 44 ≡ noted q (events b q (r .front)) .run .accepted)
+    × (wordAt a 8 ≡ length (r .frame))
+    × (signedAt a 20 ≡ timeOf (r .seconds) (r .microseconds) .seconds)
+    × (signedAt a 24 ≡ timeOf (r .seconds) (r .microseconds) .microseconds)
+    × (take (length (r .frame)) (drop (wordAt a 52) (after b mid .memory)) ≡ r .frame)
+
+returns-at : (b : Box) (p : Paper) (k : ℕ) (mid : List Call) (v : ℕ) (c a : List ℕ) → Safe b (step p (put k))
+    → Calm (events b (step p (put k)) mid) → dequeues (events b (step p (put k)) mid) ≡ length (p .outgoing) + length (p .incoming)
+    → requestOf v .call ≡ Dqbuf → reply (after b mid) (request v c) ≡ answered 0 a → ComesBack b (step p (put k)) k mid a (length (p .incoming))
+unfolding arrival-of
+returns-at b p k mid v c a s calm n w h =
+    go (leaves p k (events b (step p (put k)) mid) calm (legal-tells reply next told Safe safe-next fits-next mid b (step p (put k)) s) (some-handed (after b mid) now-paper v c a now-safe w h) n)
+  where
+    now-paper : Paper
+    now-paper = noted (step p (put k)) (events b (step p (put k)) mid)
+
+    now-safe : Safe (after b mid) (noted (step p (put k)) (events b (step p (put k)) mid))
+    now-safe = safe-after mid b (step p (put k)) s
+
+    go : Leaves p k (events b (step p (put k)) mid) → ComesBack b (step p (put k)) k mid a (length (p .incoming))
+    go l =
+        let q : Paper = step p (put k) in
+        let t : Cut reply next told b q mid (l .at .front) (whole (l .at .bytes) (l .at .time)) =
+        cut reply next told mid b q (l .at .front) (whole (l .at .bytes) (l .at .time)) (l .at .back) (l .at .is) in
+        let y : IsArrival (t .call) (l .at .bytes) (l .at .time) = whole-call (after b (t .fore)) (noted q (events b q (t .fore))) (t .call) (l .at .bytes) (l .at .time) (t .tells-call) in
+        let z : Says (after b mid) now-paper (pairOf k (noted q (l .at .front)) (l .at .bytes) (l .at .time)) a =
+        returned-now (after b mid) now-paper (pairOf k (noted q (l .at .front)) (l .at .bytes) (l .at .time)) (l .behind) v c a now-safe (l .first) w h in (
+          arrival-of b q mid (length (p .incoming)) (l .at) t y,
+          z .index,
+          z .number ∙ ap (λ (es : List Event). noted q es .run .accepted) (sym (t .tells-front)),
+          z .used,
+          z .seconds ∙ ap (λ (u : Time). u .seconds) (sym (y .time)),
+          z .microseconds ∙ ap (λ (u : Time). u .microseconds) (sym (y .time)),
+          z .bytes,
+        )
+
+-- the same on any paper that is as it was when k was handed in
+returns-on : (b : Box) (p q : Paper) (k : ℕ) (mid : List Call) (v : ℕ) (c a : List ℕ) → q ≡ step p (put k) → Safe b q → Calm (events b q mid)
+    → dequeues (events b q mid) ≡ length (p .outgoing) + length (p .incoming)
+    → requestOf v .call ≡ Dqbuf → reply (after b mid) (request v c) ≡ answered 0 a → ComesBack b q k mid a (length (p .incoming))
+returns-on b p q k mid v c a e =
+    subst (λ (q : Paper). Safe b q → Calm (events b q mid) → dequeues (events b q mid) ≡ length (p .outgoing) + length (p .incoming)
+    → requestOf v .call ≡ Dqbuf → reply (after b mid) (request v c) ≡ answered 0 a → ComesBack b q k mid a (length (p .incoming)))
+    (sym e) (returns-at b p k mid v c a)
+
+-- ---- from an opening
+
+module _ (s m : List ℕ) (before : List Call) (w : ℕ) (a : List ℕ) where
+  -- the paper when the buffer has been handed in and accepted
+  paper-in : requestOf w .call ≡ Qbuf → (b : List ℕ) → reply (boxAfter s m before) (request w a) ≡ answered 0 b
+      → paperAfter s m (before ++ request w a ∷ []) ≡ step (paperAfter s m before) (put (wordAt a 0))
+  paper-in e b h =
+      noted-tells reply next told before (request w a ∷ []) (opened s m) (blank (openingSize s))
+      ∙ ap (step (paperAfter s m before)) (ap (told (paperAfter s m before) (request w a)) h ∙ ap (λ (call : Asked). requestTold (paperAfter s m before) call a b) e)
+
+  -- and after more calls
+  split : (mid : List Call) → before ++ request w a ∷ mid ≡ (before ++ request w a ∷ []) ++ mid
+  split mid = sym (append-assoc before (request w a ∷ []) mid)
+
+  box-mid : (mid : List Call) → boxAfter s m (before ++ request w a ∷ mid) ≡ after (boxAfter s m (before ++ request w a ∷ [])) mid
+  box-mid mid = ap (after (opened s m)) (split mid) ∙ leaves-append reply next told (before ++ request w a ∷ []) mid (opened s m)
+
+  paper-mid : (mid : List Call) → paperAfter s m (before ++ request w a ∷ mid)
+      ≡ noted (paperAfter s m (before ++ request w a ∷ [])) (events (boxAfter s m (before ++ request w a ∷ [])) (paperAfter s m (before ++ request w a ∷ [])) mid)
+  paper-mid mid = ap (paperAfter s m) (split mid) ∙ noted-tells reply next told (before ++ request w a ∷ []) mid (opened s m) (blank (openingSize s))
+
+-- an open device
+module _ (s m : List ℕ) (start : Safe (opened s m) (blank (openingSize s))) (before : List Call) (w : ℕ) (a : List ℕ) (mid : List Call) where
+  safe-at : (cs : List Call) → Safe (boxAfter s m cs) (paperAfter s m cs)
+  safe-at cs = safe-after cs (opened s m) (blank (openingSize s)) start
+
+  stored-in-it : StoredInIt s m before w a mid
+  stored-in-it f x y other (e, (b, h), c) n t =
+      let into : paperAfter s m (before ++ request w a ∷ []) ≡ step (paperAfter s m before) (put (wordAt a 0)) = paper-in s m before w a e b h in
+      rw (box-mid s m before w a mid, paper-mid s m before w a mid, into)
+      (stores-at (boxAfter s m (before ++ request w a ∷ [])) (paperAfter s m before) (wordAt a 0) mid f x y other
+      (subst (Safe (boxAfter s m (before ++ request w a ∷ []))) into (safe-at (before ++ request w a ∷ [])))
+      (rw into at c) (rw into at n) (rw (box-mid s m before w a mid, paper-mid s m before w a mid, into) at t))
+
+  returned-with-it : ReturnedWithIt s m before w a mid
+  returned-with-it v g b (e, (b2, h), c) n d t =
+      let box : Box = boxAfter s m (before ++ request w a ∷ []) in
+      let q : Paper = paperAfter s m (before ++ request w a ∷ []) in
+      let (r, x1, x2, x3, x4, x5, x6) = returns-on box (paperAfter s m before) q (wordAt a 0) mid v g b (paper-in s m before w a e b2 h) (safe-at (before ++ request w a ∷ [])) c n d
+      (rw (box-mid s m before w a mid) at t) in
+      (r, x1, x2 ∙ ap (λ (p : Paper). p .run .accepted) (sym (paper-mid s m before w a (r .front))), x3, x4, x5, rw (box-mid s m before w a mid) x6)
+
+  open-verdict : (cs : List Call) → (deviceVerdict (boxAfter s m cs .state) ≡ Complete) ⇔ AllHandedOver (paperAfter s m cs)
+  unfolding deviceVerdict
+  open-verdict cs = rw (safe-at cs .ready) (complete-exactly (view (boxAfter s m cs)) (paperAfter s m cs) (safe-at cs .kept))
+
+-- a closed device
+module _ (s m : List ℕ) (start : Shut (opened s m)) where
+  StaysShut : Box → Paper → Type 0
+  StaysShut b p = Shut b × (p ≡ blank (openingSize s))
+
+  stays-shut : (b : Box) (p : Paper) (c : Call) → StaysShut b p → StaysShut (next b c) (step p (told p c (reply b c)))
+  unfolding StaysShut
+  stays-shut b p c (h, e) = let (x, y) = shut-next b p c h in (x, ap (step p) y ∙ e)
+
+  shut-at : (cs : List Call) → Shut (boxAfter s m cs) × (paperAfter s m cs ≡ blank (openingSize s))
+  unfolding StaysShut
+  shut-at cs = keeps-after reply next told StaysShut stays-shut cs (opened s m) (blank (openingSize s)) (start, refl)
+
+  never-accepted : (cs : List Call) (w : ℕ) (a b : List ℕ) {A : Type 0} → reply (boxAfter s m cs) (request w a) ≡ answered 0 b → A
+  never-accepted cs w a b h = absurd (true≢false (cc (sym (shut-request (boxAfter s m cs) w a (shut-at cs .0)) ∙ h)))
+
+  shut-verdict : (cs : List Call) → (deviceVerdict (boxAfter s m cs .state) ≡ Complete) ⇔ AllHandedOver (paperAfter s m cs)
+  unfolding deviceVerdict
+  shut-verdict cs =
+      rw (shut-at cs .0) (λ h. absurd (true≢false (cc h)), λ h. absurd (omega (arith, ap (λ (p : Paper). p .run .ran) (shut-at cs .1), h .1)))
+
+pub demand-3 : Demand3
+demand-3 s m before w a mid = go (begins s m)
+  where
+    go : Begun s m → StoredInIt s m before w a mid × ReturnedWithIt s m before w a mid
+        × ((deviceVerdict (boxAfter s m (upTo s m before w a mid) .state) ≡ Complete) ⇔ AllHandedOver (paperAfter s m (upTo s m before w a mid)))
+    go (Begun.safe x) = (stored-in-it s m x before w a mid, returned-with-it s m x before w a mid, open-verdict s m x before w a mid (upTo s m before w a mid))
+    go (Begun.shut x) = (
+      λ f y z other (e, (b, h), c) n t. never-accepted s m x before w a b h,
+      λ v g b (e, (b2, h), c) n d t. never-accepted s m x before w a b2 h,
+      shut-verdict s m x (upTo s m before w a mid),
+    )

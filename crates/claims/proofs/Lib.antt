@@ -1,0 +1,5 @@
+pub mod Demand
+pub mod Open
+pub mod Shut
+pub mod Steps
+pub mod Table

@@ -1,0 +1,113 @@
+-- The device that an opening returns: open and as the paper says, or closed for good.
+use mathlib.Core.Path.{_≡_, refl, sym, ap, _∙_, subst}
+use mathlib.Core.Bool.{Bool, true, false, cond, not}
+use Prim.Native.Nat.{ℕ, _≤_}
+use native.Mathlib.Omega.{arith}
+use borrow.Author.Tests.{ltb-false}
+use lib.Dec.{eqb, ltb}
+use mathlib.Core.List.{List, [], _∷_}
+use lib.ListN.{length}
+use Rattle.ioctl.specs.declared.refusals.Refusal.{Refusal}
+use Rattle.ioctl.specs.declared.refusals.Refusal.the-variants.{BadSheet, MemoryTooLong}
+use Rattle.fields.specs.Copy.{keptOf}
+use Rattle.fields.specs.Fields.{formatCode}
+use Rattle.fields.proofs.Copies.{kept-code}
+use Rattle.geometry.specs.Geometry.{widthsOf, heightsOf, lineAlignment}
+use Rattle.geometry.specs.declared.Range.{Range}
+use Rattle.geometry.proofs.Copies.{kept-widths, kept-heights, kept-alignment}
+use Rattle.sheet.specs.Rules.{goodSheet}
+use Rattle.sheet.proofs.Good.{fits-copy}
+use Rattle.format.specs.declared.Format.{Format}
+use Rattle.format.specs.Size.{imageSize}
+use Rattle.negotiation.specs.Negotiation.{openingFormat}
+use Rattle.state.specs.State.{closedState, openingState, frameSize}
+use Rattle.device.specs.declared.Opened.{Opened}
+use Rattle.device.specs.Opening.{longestMemory, closedBy, openedOf}
+use Rattle.device.specs.Request.{requestAnswer}
+use Rattle.device.specs.Film.{takenOf, takenMemory}
+use Rattle.history.specs.Calls.{opened as streamOpened}
+use Rattle.history.specs.Paper.{Paper, Event, blank, step}
+use Rattle.history.specs.Paper.Event.{idle}
+use Rattle.history.proofs.Sound.{sound-blank}
+use Rattle.history.proofs.Tied.{tied-opened}
+use Rattle.history.proofs.Every.{Kept}
+use Rattle.claims.specs.Calls.{Call, Reply, Box, opened, timeOf, lent, reply, next}
+use Rattle.claims.specs.Calls.Call.{request, arrival}
+use Rattle.claims.specs.Calls.Reply.{answered, taken}
+use Rattle.claims.specs.Words.{told}
+use Rattle.claims.specs.Claims.{openingSize}
+use Rattle.claims.proofs.Steps.{view, Safe}
+
+-- ---- closed
+
+abbrev pub Shut : Box → Type 0
+Shut b = eqb (b .state .ready) 0 ≡ true
+
+-- a closed device answers 22 to every request
+pub shut-request : (b : Box) (w : ℕ) (a : List ℕ) → Shut b → reply b (request w a) ≡ answered 22 a
+unfolding requestAnswer
+shut-request b w a h = rw h
+
+shut-state : (b : Box) (w : ℕ) (a : List ℕ) → Shut b → next b (request w a) .state ≡ b .state
+unfolding requestAnswer
+shut-state b w a h = rw h
+
+-- no call tells anything, and the device stays closed
+pub shut-next : (b : Box) (p : Paper) (c : Call) → Shut b → (Shut (next b c)) × (told p c (reply b c) ≡ idle)
+unfolding takenOf
+shut-next b p (request w a) h = (ap (λ d. eqb (d .ready) 0) (shut-state b w a h) ∙ h, ap (told p (request w a)) (shut-request b w a h))
+shut-next b p (arrival f x y other) h = (rw h h, rw h)
+
+-- ---- opening
+
+-- the copy has the sheet's first format, greatest size and alignment
+opening-size : (s : List ℕ) (n : ℕ) → goodSheet s ≡ true → frameSize (keptOf s) (openingState (keptOf s) n) ≡ openingSize s
+unfolding frameSize openingState openingFormat
+opening-size s n good =
+    let fits : length s ≤ 2688 = omega (arith, fits-copy s good) in
+    rw (kept-widths s fits, kept-heights s fits, kept-alignment s fits, kept-code s fits 0)
+
+-- open, or closed
+pub data Begun (s m : List ℕ) : Type 0 where
+  safe : Safe (opened s m) (blank (openingSize s)) → Begun s m
+  shut : Shut (opened s m) → Begun s m
+
+-- the device that an opening gave, with its memory
+abbrev boxOf : Opened → List ℕ → Box
+boxOf o m = record { sheet = o .device .sheet; state = o .device .state; memory = m }
+
+abbrev goodOpening : List ℕ → ℕ → Opened
+goodOpening s n = record { number = 0; device = record { sheet = keptOf s; state = openingState (keptOf s) n } }
+
+-- an opening by its two tests
+opening-by : (s : List ℕ) (n : ℕ) (x y : Bool) → goodSheet s ≡ x → ltb longestMemory n ≡ y
+    → openedOf s n ≡ cond (not x) (closedBy BadSheet) (cond y (closedBy MemoryTooLong) (goodOpening s n))
+unfolding openedOf
+opening-by s n x y e f =
+    ap (λ (v : Bool). cond (not v) (closedBy BadSheet) (cond (ltb longestMemory n) (closedBy MemoryTooLong) (goodOpening s n))) e
+    ∙ ap (λ (v : Bool). cond (not x) (closedBy BadSheet) (cond v (closedBy MemoryTooLong) (goodOpening s n))) f
+
+closed-shut : (why : Refusal) (m : List ℕ) → Shut (boxOf (closedBy why) m)
+unfolding closedBy closedState
+closed-shut why m = refl
+
+good-safe : (s m : List ℕ) → goodSheet s ≡ true → ltb longestMemory (length m) ≡ false → Safe (boxOf (goodOpening s (length m)) m) (blank (openingSize s))
+unfolding openingState
+good-safe s m good short =
+    let z : ℕ = frameSize (keptOf s) (openingState (keptOf s) (length m)) in
+    subst (λ (n : ℕ). Safe (boxOf (goodOpening s (length m)) m) (blank n)) (opening-size s (length m) good)
+    (record {
+      ready = refl;
+      kept = record { tied = tied-opened z m; sound = sound-blank z };
+      short = ltb-false longestMemory (length m) short;
+      timed = tt;
+    })
+
+pub begins : (s m : List ℕ) → Begun s m
+begins s m = go (goodSheet s) refl (ltb longestMemory (length m)) refl
+  where
+    go : (x : Bool) → goodSheet s ≡ x → (y : Bool) → ltb longestMemory (length m) ≡ y → Begun s m
+    go false e y f = shut (subst (λ (o : Opened). Shut (boxOf o m)) (sym (opening-by s (length m) false y e f)) (closed-shut BadSheet m))
+    go true e true f = shut (subst (λ (o : Opened). Shut (boxOf o m)) (sym (opening-by s (length m) true true e f)) (closed-shut MemoryTooLong m))
+    go true e false f =
+        safe (subst (λ (o : Opened). Safe (boxOf o m) (blank (openingSize s))) (sym (opening-by s (length m) true false e f)) (good-safe s m e f))

@@ -1,0 +1,58 @@
+-- The words of demand 3, told from the calls, their arguments and what is given back: never from the state.
+use Prim.Native.Nat.{ℕ}
+use mathlib.Core.Bool.{cond}
+use mathlib.Core.List.{List}
+use lib.Dec.{eqb}
+use lib.ListN.{length}
+use Rattle.wire.specs.Words.{wordAt}
+use Rattle.ioctl.specs.Table.{requestOf}
+use Rattle.ioctl.specs.declared.table.Call.{Call as Asked}
+use Rattle.ioctl.specs.declared.table.Call.the-variants.{Unknown, Querycap, EnumFmt, GFmt, SFmt, TryFmt, Reqbufs, Querybuf, Qbuf, Dqbuf, Streamon, Streamoff, GCtrl, SCtrl, Queryctrl, Cropcap, GCrop, SCrop}
+use Rattle.arrival.specs.Picture.{wholePicture}
+use Rattle.history.specs.Paper.{Paper, Event, refusedArrival, tells}
+use Rattle.history.specs.Paper.Event.{put, whole, damaged, handed, begun, ended, sized, idle}
+use Rattle.claims.specs.Calls.{Call, Reply, Box, timeOf, reply, next}
+use Rattle.claims.specs.Calls.Call.{request, arrival}
+use Rattle.claims.specs.Calls.Reply.{answered, taken}
+
+-- what an accepted request means, by its argument before and after
+abbrev pub requestTold : Paper → Asked → List ℕ → List ℕ → Event
+requestTold p Unknown a b = idle
+requestTold p Querycap a b = idle
+requestTold p EnumFmt a b = idle
+requestTold p GFmt a b = idle
+-- the image size that S_FMT answered
+requestTold p SFmt a b = sized (wordAt b 24)
+requestTold p TryFmt a b = idle
+-- a buffer request: so many buffers were granted
+requestTold p Reqbufs a b = ended (wordAt b 0)
+requestTold p Querybuf a b = idle
+-- its index goes last into the incoming queue
+requestTold p Qbuf a b = put (wordAt a 0)
+-- a successful dequeue
+requestTold p Dqbuf a b = handed
+-- a run begins, outside a run
+requestTold p Streamon a b = cond (p .running) idle begun
+-- a stop
+requestTold p Streamoff a b = ended (p .granted)
+requestTold p GCtrl a b = idle
+requestTold p SCtrl a b = idle
+requestTold p Queryctrl a b = idle
+requestTold p Cropcap a b = idle
+requestTold p GCrop a b = idle
+requestTold p SCrop a b = idle
+
+-- an accepted arrival is whole if it has the image size in force and its microseconds are in 0..999,999
+abbrev pub arrivalTold : Paper → List ℕ → ℕ → ℕ → Event
+arrivalTold p f x y = cond (wholePicture (length f) (p .size) (timeOf x y)) (whole f (timeOf x y)) damaged
+
+-- a request is accepted if it is answered 0, an arrival if it is made in a run and not refused
+abbrev pub told : Paper → Call → Reply → Event
+told p (request w a) (answered n b) = cond (eqb n 0) (requestTold p (requestOf w .call) a b) idle
+told p (request w a) (taken x) = idle
+told p (arrival f x y other) (answered n b) = idle
+told p (arrival f x y other) (taken r) = cond (refusedArrival r) idle (cond (p .running) (arrivalTold p f x y) idle)
+
+-- the events of a list of calls
+abbrev pub events : Box → Paper → List Call → List Event
+events b p cs = tells reply next told b p cs

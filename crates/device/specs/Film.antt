@@ -1,0 +1,47 @@
+-- Frame arrivals, the verdict, and planes. A closed device refuses the first and the last, and its film is blank.
+use Prim.Native.Nat.{ℕ}
+use mathlib.Core.Bool.{cond}
+use mathlib.Core.List.{List, []}
+use lib.Dec.{eqb}
+use lib.ListN.{length}
+use Rattle.ioctl.specs.Refusal.{errnoOf}
+use Rattle.ioctl.specs.declared.refusals.Refusal.the-variants.{Closed}
+use Rattle.buffers.specs.declared.Time.{Time}
+use Rattle.geometry.specs.Geometry.{lineAlignment}
+use Rattle.planes.specs.Planes.{planeOf, planeNumber}
+use Rattle.arrival.specs.declared.Arrival.the-variants.{Refused}
+use Rattle.arrival.specs.declared.Arrived.{Arrived}
+use Rattle.arrival.specs.Arrivals.{arrivalOf, writtenBy}
+use Rattle.arrival.specs.Picture.{wholePicture}
+use Rattle.status.specs.declared.Verdict.{Verdict}
+use Rattle.status.specs.declared.Verdict.the-variants.{Blank}
+use Rattle.status.specs.Film.{verdictOf}
+use Rattle.state.specs.declared.State.{State}
+use Rattle.state.specs.State.{frameSize, withStream}
+use Rattle.device.specs.declared.Taken.{Taken}
+
+-- a picture arrives at the stream: whole if it has the image size and its microseconds are in 0..999,999
+abbrev pub pictureArrives : List ℕ → State → ℕ → ℕ → Time → Arrived
+pictureArrives s d lent n t = arrivalOf (d .stream) lent n (wholePicture n (frameSize s d) t) (frameSize s d) t
+
+-- what an arrival of n bytes answers and leaves
+unfoldable pub takenOf : List ℕ → State → ℕ → ℕ → Time → Taken
+takenOf s d lent n t =
+    cond (eqb (d .ready) 0) (record { arrival = Refused Closed; state = d })
+    (record { arrival = pictureArrives s d lent n t .arrival; state = withStream d (pictureArrives s d lent n t .stream) })
+
+-- what it leaves of the memory: only a stored one writes
+unfoldable pub takenMemory : List ℕ → State → List ℕ → List ℕ → Time → List ℕ
+takenMemory s d m f t = writtenBy (takenOf s d (length m) (length f) t .arrival) (frameSize s d) m f
+
+-- the verdict
+unfoldable pub deviceVerdict : State → Verdict
+deviceVerdict d = cond (eqb (d .ready) 0) Blank (verdictOf (d .stream))
+
+-- the part of a frame that is its plane k
+unfoldable pub devicePlane : List ℕ → State → List ℕ → ℕ → List ℕ
+devicePlane s d f k = cond (eqb (d .ready) 0) [] (planeOf (d .format) (lineAlignment s) f k)
+
+-- 0, or the refusal's number
+unfoldable pub devicePlaneNumber : List ℕ → State → List ℕ → ℕ → ℕ
+devicePlaneNumber s d f k = cond (eqb (d .ready) 0) (errnoOf Closed) (planeNumber (d .format) (lineAlignment s) f k)

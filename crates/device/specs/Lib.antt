@@ -1,0 +1,3 @@
+pub mod Film
+pub mod Opening
+pub mod Request

@@ -1,0 +1,19 @@
+// A control, and its value.
+ghost use mathlib.Core.Path.{_≡_};
+ghost use lib.Seq.{sets};
+ghost use Rattle.replies.specs.Replies.{controlReply, valueReply};
+
+// QUERYCTRL: control k as the sheet has it.
+pub fn put_control(argument: &mut [u8], sheet: &[u8], k: u32)
+    ensures { λ _. ⌜ now (argument .exit) ≡ sets (now (argument .entry)) 0 (controlReply (now (sheet .entry)) k) ⌝ }
+{
+    wire::put_bytes(argument, 0, fields::control_record(sheet, k));
+}
+
+// G_CTRL and S_CTRL: the id and the 32 bits of the value.
+pub fn put_value(argument: &mut [u8], id: u32, value: u32)
+    ensures { λ _. ⌜ now (argument .exit) ≡ sets (now (argument .entry)) 0 (valueReply id value) ⌝ }
+{
+    let words = [id, value];
+    wire::put_words(argument, 0, &words);
+}

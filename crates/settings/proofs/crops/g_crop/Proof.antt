@@ -1,0 +1,41 @@
+-- The test of the type, then what put_crop ensures. Assumes nothing.
+use Rattle.settings.proofs.Cases.{typed-refused, typed-passed}
+use Rattle.settings.specs.Settings.{gCropOf}
+use borrow.Author.Needs.{needs}
+use Rattle.settings.proofs.crops.g_crop.Statement.{statement}
+use Rattle.settings.proofs.crops.g_crop.Tie as tie
+
+word-at-requires : tie.Need-word-at-requires
+word-at-requires c κs = search needs
+
+errno-requires : tie.Need-errno-requires
+errno-requires c κs = search needs
+
+same-length : tie.Need-same-length
+same-length c = search needs
+
+returns : tie.Need-returns
+unfolding gCropOf
+returns c = typed-refused 0 _ _ _ (c .before .before .word-at .ensures) (c .before .if1 .taken) (c .errno .ensures)
+
+put-crop-requires : tie.Need-put-crop-requires
+put-crop-requires c κs = search needs
+
+same-length-2 : tie.Need-same-length-2
+same-length-2 c = search needs
+
+returns-2 : tie.Need-returns-2
+unfolding gCropOf
+returns-2 c = rw (typed-passed 0 _ _ _ (c .before .before .before .before .before .before .word-at .ensures) (c .before .before .before .before .before .if1 .left), c .before .before .put-crop .ensures)
+
+pub g-crop-spec : {M : Type 1} → statement M
+g-crop-spec =
+    tie.close
+    (tie.spec
+    word-at-requires
+    errno-requires
+    same-length
+    returns
+    put-crop-requires
+    same-length-2
+    returns-2)

@@ -1,0 +1,54 @@
+-- The tests in the order of the definition, each as its callee promises. Assumes nothing.
+use mathlib.Core.Path.{refl}
+use denote.Ref.{now}
+use borrow.Author.Needs.{needs}
+use Rattle.streaming.specs.Streaming.{streamonOf}
+use Rattle.streaming.proofs.Cases.{is-one, not-one, step-refused, step-done}
+use Rattle.streaming.proofs.switches.streamon.Statement.{statement}
+use Rattle.streaming.proofs.switches.streamon.Tie as tie
+
+word-at-requires : tie.Need-word-at-requires
+word-at-requires c κs = search needs
+
+errno-requires : tie.Need-errno-requires
+errno-requires c κs = search needs
+
+returns : tie.Need-returns
+unfolding streamonOf
+returns c = rw (not-one (c .before .before .word-at .ensures) (c .before .if1 .taken), c .errno .ensures)
+
+start-requires : tie.Need-start-requires
+start-requires c κs = search needs
+
+reply-number-requires : tie.Need-reply-number-requires
+reply-number-requires c κs = search needs
+
+returns-2 : tie.Need-returns-2
+unfolding streamonOf
+returns-2 c =
+    let q = c .before .before in
+    let l = q .before .before .before in
+    let a = l .before .before .args in
+    rw (is-one (l .word-at .ensures) (q .before .before .if1 .left))
+    (step-refused (a .s) (now (a .argument)) (q .start .ensures) (c .before .reply-number .ensures) (c .if2 .taken) _)
+
+returns-3 : tie.Need-returns-3
+unfolding streamonOf
+returns-3 c =
+    let q = c .before .before .before in
+    let l = q .before .before .before in
+    let a = l .before .before .args in
+    rw (is-one (l .word-at .ensures) (q .before .before .if1 .left))
+    (step-done (a .s) (now (a .argument)) (q .start .ensures) (c .before .before .reply-number .ensures) (c .before .if2 .left) refl)
+
+pub streamon-spec : {M : Type 1} → statement M
+streamon-spec =
+    tie.close
+    (tie.spec
+    word-at-requires
+    errno-requires
+    returns
+    start-requires
+    reply-number-requires
+    returns-2
+    returns-3)
