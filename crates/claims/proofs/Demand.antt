@@ -27,7 +27,7 @@ use Rattle.status.specs.Buffer.{describedOf, returnedOf}
 use Rattle.status.specs.Film.{verdictOf}
 use Rattle.replies.specs.Replies.{bufferReply}
 use Rattle.replies.proofs.Words.{buffer-index, buffer-used, buffer-number, buffer-offset, buffer-seconds, buffer-microseconds}
-use Rattle.state.specs.State.{frameSize}
+use Rattle.state.specs.State.{closedState, frameSize}
 use Rattle.device.specs.Opening.{longestMemory}
 use Rattle.device.specs.Film.{deviceVerdict}
 use Rattle.history.specs.Paper.{Frame, Pair, Paper, Event, indexOf, blank, refusedArrival, frameOf, filled, step, noted, wholes, dequeues, Calm}
@@ -48,7 +48,7 @@ use Rattle.claims.specs.Words.{requestTold, arrivalTold, told, events}
 use Rattle.claims.specs.Claims.{openingSize, paperAfter, boxAfter, queued, upTo, since, i, o, Accepted, StoredInIt, Arrival, ReturnedWithIt, Demand3}
 use Rattle.claims.proofs.Steps.{view, Timed, Safe, Foretold}
 use Rattle.claims.proofs.Open.{fits-next, foretold-next, safe-next}
-use Rattle.claims.proofs.Shut.{Shut, shut-request, shut-next, Begun, begins}
+use Rattle.claims.proofs.Shut.{Shut, shut-request, shut-after, closed-shut, Begun, begins}
 
 -- ---- at one moment
 
@@ -173,7 +173,7 @@ arrival-of b p cs n a c k = record {
 
 -- ---- from the moment that k is handed in
 
-safe-after : (cs : List Call) (b : Box) (p : Paper) → Safe b p → Safe (after b cs) (noted p (events b p cs))
+pub safe-after : (cs : List Call) (b : Box) (p : Paper) → Safe b p → Safe (after b cs) (noted p (events b p cs))
 safe-after = keeps-after reply next told Safe safe-next
 
 stores-at : (b : Box) (p : Paper) (k : ℕ) (mid : List Call) (f : List ℕ) (x y : ℕ) (other : List ℕ) → Safe b (step p (put k))
@@ -282,25 +282,20 @@ module _ (s m : List ℕ) (start : Safe (opened s m) (blank (openingSize s))) (b
   open-verdict cs = rw (safe-at cs .ready) (complete-exactly (view (boxAfter s m cs)) (paperAfter s m cs) (safe-at cs .kept))
 
 -- a closed device
-module _ (s m : List ℕ) (start : Shut (opened s m)) where
-  StaysShut : Box → Paper → Type 0
-  StaysShut b p = Shut b × (p ≡ blank (openingSize s))
+module _ (s m : List ℕ) (start : opened s m .state ≡ closedState) where
+  pub closed-at : (cs : List Call) → (boxAfter s m cs .state ≡ closedState) × (paperAfter s m cs ≡ blank (openingSize s))
+  closed-at cs = let (x, y) = shut-after cs (opened s m) (blank (openingSize s)) (closed-shut (opened s m) start) in (x ∙ start, y)
 
-  stays-shut : (b : Box) (p : Paper) (c : Call) → StaysShut b p → StaysShut (next b c) (step p (told p c (reply b c)))
-  unfolding StaysShut
-  stays-shut b p c (h, e) = let (x, y) = shut-next b p c h in (x, ap (step p) y ∙ e)
-
-  shut-at : (cs : List Call) → Shut (boxAfter s m cs) × (paperAfter s m cs ≡ blank (openingSize s))
-  unfolding StaysShut
-  shut-at cs = keeps-after reply next told StaysShut stays-shut cs (opened s m) (blank (openingSize s)) (start, refl)
+  shut-at : (cs : List Call) → Shut (boxAfter s m cs)
+  shut-at cs = closed-shut (boxAfter s m cs) (closed-at cs .0)
 
   never-accepted : (cs : List Call) (w : ℕ) (a b : List ℕ) {A : Type 0} → reply (boxAfter s m cs) (request w a) ≡ answered 0 b → A
-  never-accepted cs w a b h = absurd (true≢false (cc (sym (shut-request (boxAfter s m cs) w a (shut-at cs .0)) ∙ h)))
+  never-accepted cs w a b h = absurd (true≢false (cc (sym (shut-request (boxAfter s m cs) w a (shut-at cs)) ∙ h)))
 
   shut-verdict : (cs : List Call) → (deviceVerdict (boxAfter s m cs .state) ≡ Complete) ⇔ AllHandedOver (paperAfter s m cs)
   unfolding deviceVerdict
   shut-verdict cs =
-      rw (shut-at cs .0) (λ h. absurd (true≢false (cc h)), λ h. absurd (omega (arith, ap (λ (p : Paper). p .run .ran) (shut-at cs .1), h .1)))
+      rw (shut-at cs) (λ h. absurd (true≢false (cc h)), λ h. absurd (omega (arith, ap (λ (p : Paper). p .run .ran) (closed-at cs .1), h .1)))
 
 pub demand-3 : Demand3
 demand-3 s m before w a mid = go (begins s m)

@@ -1,4 +1,8 @@
+pub mod Arrivals
+pub mod Counts
 pub mod Demand
+pub mod Formats
+pub mod Honest
 pub mod Open
 pub mod Shut
 pub mod Steps

@@ -60,7 +60,7 @@ whole-short n size t = go (inSecond (t .microseconds)) (eqb n size) refl
     go false y e = refl
 
 -- what is written leaves the length of the memory
-long-written : (x : Arrival) (size : ℕ) (m f : List ℕ) → length (writtenBy x size m f) ≡ length m
+pub long-written : (x : Arrival) (size : ℕ) (m f : List ℕ) → length (writtenBy x size m f) ≡ length m
 long-written (arrivals.Refused why) size m f = refl
 long-written arrivals.Ignored size m f = refl
 long-written arrivals.Damaged size m f = refl

@@ -20,21 +20,23 @@ use Rattle.sheet.proofs.Good.{fits-copy}
 use Rattle.format.specs.declared.Format.{Format}
 use Rattle.format.specs.Size.{imageSize}
 use Rattle.negotiation.specs.Negotiation.{openingFormat}
+use Rattle.state.specs.declared.State.{State}
 use Rattle.state.specs.State.{closedState, openingState, frameSize}
 use Rattle.device.specs.declared.Opened.{Opened}
 use Rattle.device.specs.Opening.{longestMemory, closedBy, openedOf}
 use Rattle.device.specs.Request.{requestAnswer}
 use Rattle.device.specs.Film.{takenOf, takenMemory}
 use Rattle.history.specs.Calls.{opened as streamOpened}
-use Rattle.history.specs.Paper.{Paper, Event, blank, step}
+use Rattle.history.specs.Paper.{Paper, Event, blank, step, noted}
 use Rattle.history.specs.Paper.Event.{idle}
 use Rattle.history.proofs.Sound.{sound-blank}
 use Rattle.history.proofs.Tied.{tied-opened}
 use Rattle.history.proofs.Every.{Kept}
-use Rattle.claims.specs.Calls.{Call, Reply, Box, opened, timeOf, lent, reply, next}
+use Rattle.history.proofs.Machine.{keeps-after}
+use Rattle.claims.specs.Calls.{Call, Reply, Box, opened, timeOf, lent, reply, next, after}
 use Rattle.claims.specs.Calls.Call.{request, arrival}
 use Rattle.claims.specs.Calls.Reply.{answered, taken}
-use Rattle.claims.specs.Words.{told}
+use Rattle.claims.specs.Words.{told, events}
 use Rattle.claims.specs.Claims.{openingSize}
 use Rattle.claims.proofs.Steps.{view, Safe}
 
@@ -52,11 +54,23 @@ shut-state : (b : Box) (w : ℕ) (a : List ℕ) → Shut b → next b (request w
 unfolding requestAnswer
 shut-state b w a h = rw h
 
--- no call tells anything, and the device stays closed
-pub shut-next : (b : Box) (p : Paper) (c : Call) → Shut b → (Shut (next b c)) × (told p c (reply b c) ≡ idle)
+-- no call tells anything, and none changes the device
+shut-next : (b : Box) (p : Paper) (c : Call) → Shut b → (next b c .state ≡ b .state) × (told p c (reply b c) ≡ idle)
 unfolding takenOf
-shut-next b p (request w a) h = (ap (λ d. eqb (d .ready) 0) (shut-state b w a h) ∙ h, ap (told p (request w a)) (shut-request b w a h))
-shut-next b p (arrival f x y other) h = (rw h h, rw h)
+shut-next b p (request w a) h = (shut-state b w a h, ap (told p (request w a)) (shut-request b w a h))
+shut-next b p (arrival f x y other) h = (rw h, rw h)
+
+-- after any calls it is as it was, and the paper too
+pub shut-after : (cs : List Call) (b : Box) (p : Paper) → Shut b → (after b cs .state ≡ b .state) × (noted p (events b p cs) ≡ p)
+shut-after cs b p h = keeps-after reply next told Same same cs b p (refl, refl)
+  where
+    Same : Box → Paper → Type 0
+    Same c q = (c .state ≡ b .state) × (q ≡ p)
+
+    same : (c : Box) (q : Paper) (x : Call) → (c .state ≡ b .state) × (q ≡ p) → (next c x .state ≡ b .state) × (step q (told q x (reply c x)) ≡ p)
+    same c q x (e, f) =
+        let (u, v) = shut-next c q x (ap (λ (d : State). eqb (d .ready) 0) e ∙ h) in
+        (u ∙ e, ap (step q) v ∙ f)
 
 -- ---- opening
 
@@ -70,7 +84,7 @@ opening-size s n good =
 -- open, or closed
 pub data Begun (s m : List ℕ) : Type 0 where
   safe : Safe (opened s m) (blank (openingSize s)) → Begun s m
-  shut : Shut (opened s m) → Begun s m
+  shut : opened s m .state ≡ closedState → Begun s m
 
 -- the device that an opening gave, with its memory
 abbrev boxOf : Opened → List ℕ → Box
@@ -87,9 +101,14 @@ opening-by s n x y e f =
     ap (λ (v : Bool). cond (not v) (closedBy BadSheet) (cond (ltb longestMemory n) (closedBy MemoryTooLong) (goodOpening s n))) e
     ∙ ap (λ (v : Bool). cond (not x) (closedBy BadSheet) (cond v (closedBy MemoryTooLong) (goodOpening s n))) f
 
-closed-shut : (why : Refusal) (m : List ℕ) → Shut (boxOf (closedBy why) m)
-unfolding closedBy closedState
-closed-shut why m = refl
+closed-state : (why : Refusal) (m : List ℕ) → boxOf (closedBy why) m .state ≡ closedState
+unfolding closedBy
+closed-state why m = refl
+
+-- a device that was never opened is closed
+pub closed-shut : (b : Box) → b .state ≡ closedState → Shut b
+unfolding closedState
+closed-shut b e = ap (λ (d : State). eqb (d .ready) 0) e
 
 good-safe : (s m : List ℕ) → goodSheet s ≡ true → ltb longestMemory (length m) ≡ false → Safe (boxOf (goodOpening s (length m)) m) (blank (openingSize s))
 unfolding openingState
@@ -107,7 +126,7 @@ pub begins : (s m : List ℕ) → Begun s m
 begins s m = go (goodSheet s) refl (ltb longestMemory (length m)) refl
   where
     go : (x : Bool) → goodSheet s ≡ x → (y : Bool) → ltb longestMemory (length m) ≡ y → Begun s m
-    go false e y f = shut (subst (λ (o : Opened). Shut (boxOf o m)) (sym (opening-by s (length m) false y e f)) (closed-shut BadSheet m))
-    go true e true f = shut (subst (λ (o : Opened). Shut (boxOf o m)) (sym (opening-by s (length m) true true e f)) (closed-shut MemoryTooLong m))
+    go false e y f = shut (ap (λ (o : Opened). boxOf o m .state) (opening-by s (length m) false y e f) ∙ closed-state BadSheet m)
+    go true e true f = shut (ap (λ (o : Opened). boxOf o m .state) (opening-by s (length m) true true e f) ∙ closed-state MemoryTooLong m)
     go true e false f =
         safe (subst (λ (o : Opened). Safe (boxOf o m) (blank (openingSize s))) (sym (opening-by s (length m) true false e f)) (good-safe s m e f))

@@ -1,4 +1,5 @@
 pub mod Calls
 pub mod Claims
+pub mod Demands
 pub mod Refusals
 pub mod Words

@@ -11,6 +11,16 @@ use Rattle.format.specs.Code.{YUYV, YU12}
 use Rattle.format.specs.Size.{bytesPerLine, imageSize}
 use Rattle.buffers.specs.Slot.{slotSize}
 use Rattle.stream.specs.Calls.{grantOf}
+use Rattle.stream.specs.declared.Stream.{Stream}
+use Rattle.wire.specs.Words.{bytesOf}
+use Rattle.fields.specs.Copy.{keptOf}
+use Rattle.status.specs.Film.{verdictNumber}
+use Rattle.state.specs.declared.State.{State}
+use Rattle.state.specs.Answers.{Answer}
+use Rattle.device.specs.declared.Opened.{Opened}
+use Rattle.device.specs.Opening.{openedOf}
+use Rattle.device.specs.Request.{requestAnswer}
+use Rattle.device.specs.Film.{deviceVerdict}
 use Rattle.planes.specs.Planes.{planeStart}
 use Rattle.negotiation.specs.Negotiation.{negotiated}
 use Rattle.crop.specs.Crop.{clamped}
@@ -68,6 +78,17 @@ across left width = record { left = left; top = cropDefault benchSheet .top; wid
 abbrev contrast : ℤ → ℤ
 contrast value = signed (getD (storedValues (replicate 32 0) (settingOf benchSheet 0x00980901 (bits value))) 0 0)
 
+-- ---- a run
+
+-- the state after a request of these words
+abbrev asked : State → ℕ → List ℕ → State
+asked d w ws = requestAnswer (keptOf benchSheet) d w (bytesOf ws) .state
+
+-- the bench's device: ten buffers asked for, a run without arrivals, a stop
+abbrev ranEmpty : State
+ranEmpty =
+    asked (asked (asked (openedOf benchSheet benchMemory .device .state) 0xC0145608 (10 ∷ 1 ∷ 1 ∷ 0 ∷ 0 ∷ [])) 0x40045612 (1 ∷ [])) 0x40045613 (1 ∷ [])
+
 -- ---- the table
 
 unfoldable pub figures : List Figure
@@ -97,4 +118,7 @@ figures =
     -- contrast: the nearest value, the one nearer the minimum of two that are as near
     ∷ contrast (minus 8) gives minus 10
     ∷ contrast (pos 0) gives minus 2
+    -- a run of no arrivals, stopped: there was a run, and the film is BLANK
+    ∷ pos (ranEmpty .stream .run .ran) gives pos 1
+    ∷ pos (verdictNumber (deviceVerdict ranEmpty)) gives pos 1
     ∷ []

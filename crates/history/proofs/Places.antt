@@ -42,11 +42,14 @@ flags-told w p k g =
     flags-count (isOutgoing (w .stream .queues) k) (isIncoming (w .stream .queues) k) (timesIn p k) (timesOut p k) out in-it
     (omega (arith, times-once k (line p) (g .sound .apart), times-append k (map indexOf (p .outgoing)) (p .incoming)))
 
+-- wherever the stream is as the paper says
+pub placed : (w : World) (p : Paper) (k : ℕ) → Kept w p
+    → (timesIn p k + timesOut p k ≤ 1) × (p .granted ≤ k → timesIn p k + timesOut p k ≡ 0) × (flagsOf (w .stream .queues) k ≡ 2 * timesIn p k + 4 * timesOut p k)
+placed w p k g = (
+  omega (arith, times-once k (line p) (g .sound .apart), times-append k (map indexOf (p .outgoing)) (p .incoming)),
+  λ h. omega (arith, times-past k (p .granted) (line p) (g .sound .below) h, times-append k (map indexOf (p .outgoing)) (p .incoming)),
+  flags-told w p k g,
+)
+
 pub one-place : OnePlace
-one-place size m cs k =
-    let p : Paper = paperAfter size m cs in
-    let g : Kept (worldAfter size m cs) p = kept size m cs in (
-      omega (arith, times-once k (line p) (g .sound .apart), times-append k (map indexOf (p .outgoing)) (p .incoming)),
-      λ h. omega (arith, times-past k (p .granted) (line p) (g .sound .below) h, times-append k (map indexOf (p .outgoing)) (p .incoming)),
-      flags-told (worldAfter size m cs) p k g,
-    )
+one-place size m cs k = placed (worldAfter size m cs) (paperAfter size m cs) k (kept size m cs)

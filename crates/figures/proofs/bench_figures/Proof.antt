@@ -8,7 +8,22 @@ use Rattle.grid.specs.Grid.{nearestMultiple, nearestUpTo, nearestSize, nearestV
 use Rattle.format.specs.Code.{bytesPerPixel, halfChroma}
 use Rattle.format.specs.Size.{roundUp, bytesPerLine, heldHeight, firstPlane, imageSize}
 use Rattle.buffers.specs.Slot.{slotSize}
-use Rattle.stream.specs.Calls.{grantOf}
+use Rattle.stream.specs.Calls.{grantOf, requestOf as bufferRequest, startOf, stopOf}
+use Rattle.stream.specs.Stream.{freshStream, started, stopped}
+use Rattle.buffers.specs.Queues.{noBuffers, emptyQueues}
+use Rattle.fields.specs.Copy.{keptOf}
+use Rattle.fields.specs.Fields.{formatsAt, formatAt, formatCode}
+use Rattle.geometry.specs.Geometry.{heightsOf}
+use Rattle.ioctl.specs.Table.{known, callOf, requestOf}
+use Rattle.negotiation.specs.Negotiation.{openingFormat}
+use Rattle.control.specs.Values.{defaultValues, openingValues}
+use Rattle.status.specs.Film.{verdictAfter, verdictOf}
+use Rattle.state.specs.State.{openingState, frameSize}
+use Rattle.streaming.specs.Streaming.{reqbufsOf, streamonOf, streamoffOf}
+use Rattle.device.specs.Opening.{openedOf}
+use Rattle.device.specs.Request.{requestAnswer}
+use Rattle.device.specs.Film.{deviceVerdict}
+use Rattle.bench.proofs.Good.{bench-good}
 use Rattle.planes.specs.Planes.{planesOf, componentOf, componentLength, planeLength, planeStart}
 use Rattle.negotiation.specs.Negotiation.{negotiated}
 use Rattle.crop.specs.Crop.{minZ, maxZ, clampZ, sizeIn, placeIn, widthIn, leftIn, clamped}
@@ -21,8 +36,8 @@ use Rattle.figures.proofs.bench_figures.Statement.{statement}
 use Rattle.figures.proofs.bench_figures.Tie as tie
 
 returns : tie.Need-returns
-unfolding figures grantOf benchSheet wordAt le32 bytesOf signed bits signedAt above geometryAt controlsAt controlCount controlAt controlId controlKind limitsOf controlFlags controlFields rangeAt widthsOf lineAlignment rectAt cropBounds cropDefault nearestMultiple nearestUpTo nearestSize nearestValue bytesPerPixel halfChroma roundUp bytesPerLine heldHeight firstPlane imageSize slotSize planesOf componentOf componentLength planeLength planeStart negotiated minZ maxZ clampZ sizeIn placeIn widthIn leftIn clamped firstFrom firstBelow present placeOf rangedAt settingAt settingOf storedValues
-returns c = refl
+unfolding figures keptOf known callOf requestOf openedOf openingState openingFormat openingValues defaultValues freshStream noBuffers frameSize requestAnswer reqbufsOf streamonOf streamoffOf bufferRequest startOf started stopOf stopped emptyQueues deviceVerdict verdictOf verdictAfter formatCode formatAt formatsAt heightsOf grantOf benchSheet wordAt le32 bytesOf signed bits signedAt above geometryAt controlsAt controlCount controlAt controlId controlKind limitsOf controlFlags controlFields rangeAt widthsOf lineAlignment rectAt cropBounds cropDefault nearestMultiple nearestUpTo nearestSize nearestValue bytesPerPixel halfChroma roundUp bytesPerLine heldHeight firstPlane imageSize slotSize planesOf componentOf componentLength planeLength planeStart negotiated minZ maxZ clampZ sizeIn placeIn widthIn leftIn clamped firstFrom firstBelow present placeOf rangedAt settingAt settingOf storedValues
+returns c = rw bench-good refl
 
 pub bench-figures-spec : {M : Type 1} → statement M
 bench-figures-spec = tie.close (tie.spec returns)

@@ -1,0 +1,119 @@
+-- Arrivals, openings and planes by the refusal table, and what a refusal leaves.
+use mathlib.Core.Path.{_≡_, refl, sym, ap, _∙_}
+use mathlib.Core.Logic.{_≢_}
+use mathlib.Core.Bool.{Bool, true, false, cond, not, _&&_, _||_}
+use Prim.Native.Nat.{ℕ}
+use lib.Dec.{eqb, leb, ltb}
+use mathlib.Core.List.{List, [], _∷_}
+use lib.ListN.{length}
+use Rattle.ioctl.specs.declared.refusals.Refusal.the-variants.{MemoryLength, Closed, BadSheet, MemoryTooLong, NoSuchPlane, RunFull}
+use Rattle.geometry.specs.Geometry.{lineAlignment}
+use Rattle.planes.specs.Planes.{planeRefused, planeNumber}
+use Rattle.sheet.specs.Rules.{goodSheet}
+use Rattle.buffers.specs.declared.Time.{Time}
+use Rattle.stream.specs.declared.Stream.{Stream}
+use Rattle.stream.specs.Stream.{streaming}
+use Rattle.arrival.specs.declared.Arrival.{Arrival}
+use Rattle.arrival.specs.declared.Arrival.the-variants as arrivals
+use Rattle.arrival.specs.declared.Arrived.{Arrived}
+use Rattle.arrival.specs.Arrivals.{runLimit, answers, withRun, countedRun, placedOf, acceptedOf, arrivalOf, writtenBy}
+use Rattle.arrival.specs.Picture.{wholePicture}
+use Rattle.state.specs.declared.State.{State}
+use Rattle.fields.specs.Copy.{keptOf}
+use Rattle.state.specs.State.{closedState, openingState, frameSize, withStream}
+use Rattle.device.specs.declared.Opened.{Opened}
+use Rattle.device.specs.declared.Taken.{Taken}
+use Rattle.device.specs.Opening.{longestMemory, closedBy, openedOf}
+use Rattle.device.specs.Film.{pictureArrives, takenOf, takenMemory, devicePlaneNumber}
+use Rattle.claims.specs.Refusals.{Check, firstNumber}
+use Rattle.claims.specs.Demands.{known, arrivalNumber, arrivalChecks, ArrivalAnswered, OpeningAnswered, PlaneAnswered}
+use Rattle.claims.proofs.Honest.{first-known}
+use Rattle.claims.proofs.Open.{long-written}
+
+-- an accepted arrival gives 0
+zero-by : (x : Bool) (a b : Arrived) → arrivalNumber (a .arrival) ≡ 0 → arrivalNumber (b .arrival) ≡ 0 → arrivalNumber (cond x a b .arrival) ≡ 0
+zero-by true a b e f = e
+zero-by false a b e f = f
+
+accepted-number : (s : Stream) (number n : ℕ) (w : Bool) (size : ℕ) (t : Time) → arrivalNumber (acceptedOf s number n w size t .arrival) ≡ 0
+unfolding acceptedOf placedOf
+accepted-number s number n w size t = zero-by (w && leb n size) (placedOf s number n t) _ (zero-by (eqb (s .queues .queued) 0) _ _ refl refl) refl
+
+-- the stream's own tests
+module _ (s : Stream) (lent n : ℕ) (w : Bool) (size : ℕ) (t : Time) where
+  stream-checks : (arrivalNumber (arrivalOf s lent n w size t .arrival)
+      ≡ cond (not (eqb lent (s .length))) 14 (cond (streaming s && leb runLimit (s .run .accepted)) 75 0))
+      × (arrivalNumber (arrivalOf s lent n w size t .arrival) ≢ 0 → arrivalOf s lent n w size t .stream ≡ s)
+  unfolding arrivalOf
+  stream-checks = go (not (eqb lent (s .length))) (streaming s) (leb runLimit (s .run .accepted))
+    where
+      taken : Arrived
+      taken = acceptedOf (withRun s (countedRun (s .run))) (s .run .accepted) n w size t
+
+      zero : arrivalNumber (acceptedOf (withRun s (countedRun (s .run))) (s .run .accepted) n w size t .arrival) ≡ 0
+      zero = accepted-number (withRun s (countedRun (s .run))) (s .run .accepted) n w size t
+
+      r : Bool → Bool → Bool → Arrived
+      r x y z = cond x (answers (arrivals.Refused MemoryLength) s) (cond (not y) (answers arrivals.Ignored s) (cond z (answers (arrivals.Refused RunFull) s)
+          (acceptedOf (withRun s (countedRun (s .run))) (s .run .accepted) n w size t)))
+
+      go : (x y z : Bool) → (arrivalNumber (r x y z .arrival) ≡ cond x 14 (cond (y && z) 75 0)) × (arrivalNumber (r x y z .arrival) ≢ 0 → r x y z .stream ≡ s)
+      go true y z = (refl, λ h. refl)
+      go false false z = (refl, λ h. refl)
+      go false true true = (refl, λ h. refl)
+      go false true false = (zero, λ h. absurd (h zero))
+
+-- what is refused writes nothing
+written-refused : (x : Arrival) (size : ℕ) (m f : List ℕ) → arrivalNumber x ≢ 0 → writtenBy x size m f ≡ m
+written-refused (arrivals.Refused why) size m f h = refl
+written-refused arrivals.Ignored size m f h = refl
+written-refused arrivals.Damaged size m f h = refl
+written-refused arrivals.Dropped size m f h = refl
+written-refused (arrivals.Stored k n) size m f h = absurd (h refl)
+
+module _ (s : List ℕ) (d : State) (m f : List ℕ) (t : Time) where
+  device-checks : (arrivalNumber (takenOf s d (length m) (length f) t .arrival) ≡ firstNumber (arrivalChecks d (length m)))
+      × (arrivalNumber (takenOf s d (length m) (length f) t .arrival) ≢ 0 → takenOf s d (length m) (length f) t .state ≡ d)
+  unfolding takenOf
+  device-checks = go (eqb (d .ready) 0)
+    where
+      fl : Bool
+      fl = wholePicture (length f) (frameSize s d) t
+
+      r : Bool → Taken
+      r x = cond x (record { arrival = arrivals.Refused Closed; state = d })
+          (record { arrival = pictureArrives s d (length m) (length f) t .arrival; state = withStream d (pictureArrives s d (length m) (length f) t .stream) })
+
+      go : (x : Bool) → (arrivalNumber (r x .arrival)
+          ≡ cond x 22 (cond (not (eqb (length m) (d .stream .length))) 14 (cond (streaming (d .stream) && leb runLimit (d .stream .run .accepted)) 75 0)))
+          × (arrivalNumber (r x .arrival) ≢ 0 → r x .state ≡ d)
+      go true = (refl, λ h. refl)
+      go false =
+          let (a, b) = stream-checks (d .stream) (length m) (length f) (wholePicture (length f) (frameSize s d) t) (frameSize s d) t in
+          (a, λ h. ap (withStream d) (b h))
+
+pub arrival-answered : ArrivalAnswered
+unfolding takenMemory
+arrival-answered s d m f t =
+    let (a, b) = device-checks s d m f t in (
+      a,
+      ap known a ∙ first-known (arrivalChecks d (length m)),
+      λ h. (b h, written-refused (takenOf s d (length m) (length f) t .arrival) (frameSize s d) m f h),
+      long-written (takenOf s d (length m) (length f) t .arrival) (frameSize s d) m f,
+    )
+
+pub opening-answered : OpeningAnswered
+unfolding openedOf closedBy closedState
+opening-answered s n = go (goodSheet s) (ltb longestMemory n)
+  where
+    r : Bool → Bool → Opened
+    r x y = cond (not x) (closedBy BadSheet) (cond y (closedBy MemoryTooLong) (record { number = 0; device = record { sheet = keptOf s; state = openingState (keptOf s) n } }))
+
+    go : (x y : Bool) → (r x y .number ≡ cond (not x) 22 (cond y 22 0)) × (r x y .number ≢ 0 → r x y .device .state .ready ≡ 0)
+    go false y = (refl, λ h. refl)
+    go true true = (refl, λ h. refl)
+    go true false = (refl, λ h. absurd (h refl))
+
+pub plane-answered : PlaneAnswered
+unfolding devicePlaneNumber planeNumber
+plane-answered s d f k = refl

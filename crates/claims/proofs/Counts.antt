@@ -1,0 +1,58 @@
+-- The history equation and the places of buffers, after every list of calls on a device.
+use mathlib.Core.Path.{_≡_, refl, sym, ap, _∙_, subst}
+use Prim.Native.Nat.{ℕ, _+_, _*_, _≤_}
+use native.Mathlib.Omega.{arith}
+use mathlib.Core.List.{List, []}
+use lib.ListN.{length}
+use Rattle.buffers.specs.declared.Queues.{Queues}
+use Rattle.buffers.specs.Search.{any}
+use Rattle.buffers.specs.Queues.{noBuffers, isIncoming, isOutgoing}
+use Rattle.stream.specs.declared.Run.{Run}
+use Rattle.stream.specs.Stream.{freshStream}
+use Rattle.status.specs.Buffer.{flagsOf}
+use Rattle.state.specs.declared.State.{State}
+use Rattle.state.specs.State.{closedState}
+use Rattle.history.specs.Paper.{Paper, blank}
+use Rattle.history.specs.Claims.{timesIn, timesOut}
+use Rattle.history.proofs.Places.{placed}
+use Rattle.claims.specs.Calls.{Call, opened}
+use Rattle.claims.specs.Claims.{openingSize, paperAfter, boxAfter}
+use Rattle.claims.specs.Demands.{HistoryEquation, OnePlace}
+use Rattle.claims.proofs.Steps.{view, Safe}
+use Rattle.claims.proofs.Shut.{Begun, begins}
+use Rattle.claims.proofs.Demand.{safe-after, closed-at}
+
+-- a closed device has no counts and no buffers
+closed-run : closedState .stream .run ≡ blank 0 .run
+unfolding closedState freshStream
+closed-run = refl
+
+closed-flags : (k : ℕ) → flagsOf (closedState .stream .queues) k ≡ 0
+unfolding closedState freshStream noBuffers flagsOf isIncoming isOutgoing any
+closed-flags k = refl
+
+pub history-equation : HistoryEquation
+history-equation s m cs = go (begins s m)
+  where
+    go : Begun s m
+        → (paperAfter s m cs .run .accepted
+        ≡ paperAfter s m cs .run .handed + length (paperAfter s m cs .outgoing) + paperAfter s m cs .run .damaged + paperAfter s m cs .run .dropped + paperAfter s m cs .run .discarded)
+        × (boxAfter s m cs .state .stream .run ≡ paperAfter s m cs .run)
+    go (Begun.safe x) =
+        let g : Safe (boxAfter s m cs) (paperAfter s m cs) = safe-after cs (opened s m) (blank (openingSize s)) x in
+        (g .kept .sound .adds, g .kept .tied .run)
+    go (Begun.shut x) =
+        let (d, p) = closed-at s m x cs in
+        (rw p refl, ap (λ (z : State). z .stream .run) d ∙ closed-run ∙ sym (ap (λ (q : Paper). q .run) p))
+
+pub one-place : OnePlace
+one-place s m cs k = go (begins s m)
+  where
+    go : Begun s m
+        → (timesIn (paperAfter s m cs) k + timesOut (paperAfter s m cs) k ≤ 1)
+        × (paperAfter s m cs .granted ≤ k → timesIn (paperAfter s m cs) k + timesOut (paperAfter s m cs) k ≡ 0)
+        × (flagsOf (boxAfter s m cs .state .stream .queues) k ≡ 2 * timesIn (paperAfter s m cs) k + 4 * timesOut (paperAfter s m cs) k)
+    go (Begun.safe x) = placed (view (boxAfter s m cs)) (paperAfter s m cs) k (safe-after cs (opened s m) (blank (openingSize s)) x .kept)
+    go (Begun.shut x) =
+        let (d, p) = closed-at s m x cs in
+        rw p (omega arith, λ h. refl, ap (λ (z : State). flagsOf (z .stream .queues) k) d ∙ closed-flags k)

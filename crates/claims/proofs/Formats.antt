@@ -1,0 +1,138 @@
+-- Demand 2: trying a format predicts what setting it gives.
+use mathlib.Core.Path.{_≡_, refl, sym, ap, _∙_, subst}
+use mathlib.Core.Bool.{Bool, true, false, cond, not}
+use Prim.Native.Nat.{ℕ}
+use borrow.Author.Tests.{eqb-true, eq-eqb}
+use native.Mathlib.Omega.{arith}
+use lib.Dec.{eqb}
+use mathlib.Core.List.{List}
+use lib.ListN.{length}
+use lib.Seq.{sets}
+use Rattle.wire.specs.Words.{wordAt}
+use Rattle.wire.proofs.Stores.{sets-all}
+use Rattle.ioctl.specs.Table.{argumentSize, requestOf}
+use Rattle.ioctl.specs.declared.table.Call.{Call}
+use Rattle.ioctl.specs.declared.table.Call.the-variants.{SFmt, TryFmt, GFmt}
+use Rattle.ioctl.proofs.Numbers.{errno-positive}
+use Rattle.ioctl.specs.declared.refusals.Refusal.{Refusal}
+use Rattle.ioctl.specs.declared.refusals.Refusal.the-variants.{ArgumentLength, Closed, UnknownWord, WrongType, BuffersExist}
+use Rattle.format.specs.declared.Format.{Format}
+use Rattle.negotiation.specs.Negotiation.{negotiated, askedFormat}
+use Rattle.negotiation.specs.Answer.{formatReply}
+use Rattle.negotiation.proofs.Reply.{reply-length}
+use Rattle.state.specs.declared.State.{State}
+use Rattle.state.specs.State.{withFormat}
+use Rattle.state.specs.Answers.{Answer, done, refused}
+use Rattle.settings.specs.Settings.{gFmtOf, sFmtOf, tryFmtOf}
+use Rattle.device.specs.Request.{callAnswer, requestAnswer}
+use Rattle.claims.specs.Demands.{Demand2}
+
+-- a request that is accepted got to its call, with an argument of its length
+pub record Reached (s : List ℕ) (d : State) (w : ℕ) (a : List ℕ) : Type 0 where
+  pub ready : eqb (d .ready) 0 ≡ false
+  pub long : length a ≡ argumentSize (requestOf w .call)
+  pub is : requestAnswer s d w a ≡ callAnswer (requestOf w .call) s d a
+
+pub reached : (s : List ℕ) (d : State) (w : ℕ) (a : List ℕ) → requestAnswer s d w a .number ≡ 0 → Reached s d w a
+unfolding requestAnswer requestOf
+reached s d w a h = go (eqb (d .ready) 0) refl (eqb (requestOf w .size) 0) refl (eqb (length a) (requestOf w .size)) refl h
+  where
+    r : Bool → Bool → Bool → Answer
+    r x y z = cond x (refused Closed d a) (cond y (refused UnknownWord d a) (cond (not z) (refused ArgumentLength d a) (callAnswer (requestOf w .call) s d a)))
+
+    go : (x : Bool) → eqb (d .ready) 0 ≡ x → (y : Bool) → eqb (requestOf w .size) 0 ≡ y → (z : Bool) → eqb (length a) (requestOf w .size) ≡ z
+        → r x y z .number ≡ 0 → Reached s d w a
+    go true e y f z g h = absurd (omega (arith, h))
+    go false e true f z g h = absurd (omega (arith, h))
+    go false e false f false g h = absurd (omega (arith, h))
+    go false e false f true g h = record { ready = e; long = eqb-true (length a) (requestOf w .size) g; is = rw (e, f, g) }
+
+-- an open device, a word of this call and an argument of its length get to the call
+reaches : (s : List ℕ) (d : State) (w : ℕ) (a : List ℕ) (call : Call) → requestOf w .call ≡ call → eqb (argumentSize call) 0 ≡ false
+    → eqb (d .ready) 0 ≡ false → length a ≡ argumentSize call → requestAnswer s d w a ≡ callAnswer call s d a
+unfolding requestAnswer requestOf
+reaches s d w a call e n r l = rw (r, e, n, eq-eqb (length a) (argumentSize call) l)
+
+-- ---- the three calls
+
+-- a test that is passed
+passed : (x : Bool) (why : Refusal) (d : State) (a : List ℕ) (r : Answer) → cond x (refused why d a) r .number ≡ 0 → x ≡ false
+passed true why d a r h = absurd (omega (arith, errno-positive why, h))
+passed false why d a r h = refl
+
+-- the state stays, whichever test holds
+stays : (x : Bool) (why : Refusal) (d : State) (a : List ℕ) (r : Answer) → r .state ≡ d → cond x (refused why d a) r .state ≡ d
+stays true why d a r e = refl
+stays false why d a r e = e
+
+try-stays : (s : List ℕ) (d : State) (w : ℕ) (a : List ℕ) → requestOf w .call ≡ TryFmt → requestAnswer s d w a .state ≡ d
+unfolding requestAnswer tryFmtOf
+try-stays s d w a e =
+    stays (eqb (d .ready) 0) Closed d a _
+    (stays (eqb (requestOf w .size) 0) UnknownWord d a _
+    (stays (not (eqb (length a) (requestOf w .size))) ArgumentLength d a _
+    (ap (λ (call : Call). callAnswer call s d a .state) e ∙ stays (not (eqb (wordAt a 0) 1)) WrongType d a (done d (sets a 0 (formatReply 1 s (negotiated s (askedFormat a))))) refl)))
+
+module _ (s : List ℕ) (d : State) (a : List ℕ) where
+  f : Format
+  f = negotiated s (askedFormat a)
+
+  -- an accepted S_FMT passed the test of its type, sets what was negotiated and answers it
+  set-accepted : sFmtOf s d a .number ≡ 0
+      → (not (eqb (wordAt a 0) 1) ≡ false) × (sFmtOf s d a ≡ done (withFormat d (negotiated s (askedFormat a))) (sets a 0 (formatReply 1 s (negotiated s (askedFormat a)))))
+  unfolding sFmtOf
+  set-accepted h = go (not (eqb (wordAt a 0) 1)) refl (not (eqb (d .stream .queues .granted) 0)) h
+    where
+      r : Bool → Bool → Answer
+      r x y = cond x (refused WrongType d a) (cond y (refused BuffersExist d a) (done (withFormat d (negotiated s (askedFormat a))) (sets a 0 (formatReply 1 s (negotiated s (askedFormat a))))))
+
+      go : (x : Bool) → not (eqb (wordAt a 0) 1) ≡ x → (y : Bool) → r x y .number ≡ 0
+          → (x ≡ false) × (r x y ≡ done (withFormat d (negotiated s (askedFormat a))) (sets a 0 (formatReply 1 s (negotiated s (askedFormat a)))))
+      go true e y h = absurd (omega (arith, h))
+      go false e true h = absurd (omega (arith, h))
+      go false e false h = (refl, refl)
+
+  try-answers : not (eqb (wordAt a 0) 1) ≡ false → tryFmtOf s d a ≡ done d (sets a 0 (formatReply 1 s (negotiated s (askedFormat a))))
+  unfolding tryFmtOf
+  try-answers h = rw h
+
+  -- an accepted G_FMT answers the format set, all over its argument
+  get-answers : gFmtOf s d a .number ≡ 0 → length a ≡ 204 → gFmtOf s d a .argument ≡ formatReply 1 s (d .format)
+  unfolding gFmtOf
+  get-answers h l = rw (passed (not (eqb (wordAt a 0) 1)) WrongType d a _ h) (sets-all (formatReply 1 s (d .format)) a (l ∙ sym (reply-length 1 s (d .format))))
+
+pub demand-2 : Demand2
+demand-2 s d t u g a b et eu eg =
+    (try-stays s d t a et, λ h. tried h, λ h k. got h k)
+  where
+    n : Format
+    n = negotiated s (askedFormat a)
+
+    set-is : requestAnswer s d u a .number ≡ 0 → requestAnswer s d u a ≡ sFmtOf s d a
+    set-is h = reached s d u a h .is ∙ ap (λ (call : Call). callAnswer call s d a) eu
+
+    long : requestAnswer s d u a .number ≡ 0 → length a ≡ 204
+    long h = reached s d u a h .long ∙ ap argumentSize eu
+
+    set-does : (h : requestAnswer s d u a .number ≡ 0)
+        → (not (eqb (wordAt a 0) 1) ≡ false) × (requestAnswer s d u a ≡ done (withFormat d (negotiated s (askedFormat a))) (sets a 0 (formatReply 1 s (negotiated s (askedFormat a)))))
+    set-does h = let (x, y) = set-accepted s d a (ap (λ (r : Answer). r .number) (sym (set-is h)) ∙ h) in (x, set-is h ∙ y)
+
+    tried : requestAnswer s d u a .number ≡ 0 → (requestAnswer s d t a .number ≡ 0) × (requestAnswer s d t a .argument ≡ requestAnswer s d u a .argument)
+    tried h =
+        let (x, y) = set-does h in
+        let z : requestAnswer s d t a ≡ done d (sets a 0 (formatReply 1 s (negotiated s (askedFormat a)))) =
+        reaches s d t a TryFmt et refl (reached s d u a h .ready) (long h) ∙ try-answers s d a x in
+        (ap (λ (r : Answer). r .number) z, ap (λ (r : Answer). r .argument) z ∙ sym (ap (λ (r : Answer). r .argument) y))
+
+    got : requestAnswer s d u a .number ≡ 0 → requestAnswer s (requestAnswer s d u a .state) g b .number ≡ 0
+        → requestAnswer s (requestAnswer s d u a .state) g b .argument ≡ requestAnswer s d u a .argument
+    got h k =
+        let (x, y) = set-does h in
+        let e : State = requestAnswer s d u a .state in
+        let q : Reached s e g b = reached s e g b k in
+        let is : requestAnswer s e g b ≡ gFmtOf s e b = q .is ∙ ap (λ (call : Call). callAnswer call s e b) eg in
+        ap (λ (r : Answer). r .argument) is
+        ∙ get-answers s e b (ap (λ (r : Answer). r .number) (sym is) ∙ k) (q .long ∙ ap argumentSize eg)
+        ∙ ap (λ (r : Answer). formatReply 1 s (r .state .format)) y
+        ∙ sym (ap (λ (r : Answer). r .argument) y ∙ sets-all (formatReply 1 s (negotiated s (askedFormat a))) a (long h ∙ sym (reply-length 1 s (negotiated s (askedFormat a)))))
