@@ -257,29 +257,31 @@ module _ (s m : List ℕ) (before : List Call) (w : ℕ) (a : List ℕ) where
   paper-mid mid = ap (paperAfter s m) (split mid) ∙ noted-tells reply next told (before ++ request w a ∷ []) mid (opened s m) (blank (openingSize s))
 
 -- an open device
-module _ (s m : List ℕ) (start : Safe (opened s m) (blank (openingSize s))) (before : List Call) (w : ℕ) (a : List ℕ) (mid : List Call) where
+module _ (s m : List ℕ) (start : Safe (opened s m) (blank (openingSize s))) where
   safe-at : (cs : List Call) → Safe (boxAfter s m cs) (paperAfter s m cs)
   safe-at cs = safe-after cs (opened s m) (blank (openingSize s)) start
 
+  open-verdict : (cs : List Call) → (deviceVerdict (boxAfter s m cs .state) ≡ Complete) ⇔ AllHandedOver (paperAfter s m cs)
+  unfolding deviceVerdict
+  open-verdict cs = rw (safe-at cs .ready) (complete-exactly (view (boxAfter s m cs)) (paperAfter s m cs) (safe-at cs .kept))
+
+-- and a QBUF on it
+module _ (s m : List ℕ) (start : Safe (opened s m) (blank (openingSize s))) (before : List Call) (w : ℕ) (a : List ℕ) (mid : List Call) where
   stored-in-it : StoredInIt s m before w a mid
   stored-in-it f x y other (e, (b, h), c) n t =
       let into : paperAfter s m (before ++ request w a ∷ []) ≡ step (paperAfter s m before) (put (wordAt a 0)) = paper-in s m before w a e b h in
       rw (box-mid s m before w a mid, paper-mid s m before w a mid, into)
       (stores-at (boxAfter s m (before ++ request w a ∷ [])) (paperAfter s m before) (wordAt a 0) mid f x y other
-      (subst (Safe (boxAfter s m (before ++ request w a ∷ []))) into (safe-at (before ++ request w a ∷ [])))
+      (subst (Safe (boxAfter s m (before ++ request w a ∷ []))) into (safe-at s m start (before ++ request w a ∷ [])))
       (rw into at c) (rw into at n) (rw (box-mid s m before w a mid, paper-mid s m before w a mid, into) at t))
 
   returned-with-it : ReturnedWithIt s m before w a mid
   returned-with-it v g b (e, (b2, h), c) n d t =
       let box : Box = boxAfter s m (before ++ request w a ∷ []) in
       let q : Paper = paperAfter s m (before ++ request w a ∷ []) in
-      let (r, x1, x2, x3, x4, x5, x6) = returns-on box (paperAfter s m before) q (wordAt a 0) mid v g b (paper-in s m before w a e b2 h) (safe-at (before ++ request w a ∷ [])) c n d
+      let (r, x1, x2, x3, x4, x5, x6) = returns-on box (paperAfter s m before) q (wordAt a 0) mid v g b (paper-in s m before w a e b2 h) (safe-at s m start (before ++ request w a ∷ [])) c n d
       (rw (box-mid s m before w a mid) at t) in
       (r, x1, x2 ∙ ap (λ (p : Paper). p .run .accepted) (sym (paper-mid s m before w a (r .front))), x3, x4, x5, rw (box-mid s m before w a mid) x6)
-
-  open-verdict : (cs : List Call) → (deviceVerdict (boxAfter s m cs .state) ≡ Complete) ⇔ AllHandedOver (paperAfter s m cs)
-  unfolding deviceVerdict
-  open-verdict cs = rw (safe-at cs .ready) (complete-exactly (view (boxAfter s m cs)) (paperAfter s m cs) (safe-at cs .kept))
 
 -- a closed device
 module _ (s m : List ℕ) (start : opened s m .state ≡ closedState) where
@@ -298,13 +300,16 @@ module _ (s m : List ℕ) (start : opened s m .state ≡ closedState) where
       rw (shut-at cs) (λ h. absurd (true≢false (cc h)), λ h. absurd (omega (arith, ap (λ (p : Paper). p .run .ran) (closed-at cs .1), h .1)))
 
 pub demand-3 : Demand3
-demand-3 s m before w a mid = go (begins s m)
+demand-3 s m cs = go (begins s m)
   where
-    go : Begun s m → StoredInIt s m before w a mid × ReturnedWithIt s m before w a mid
-        × ((deviceVerdict (boxAfter s m (upTo s m before w a mid) .state) ≡ Complete) ⇔ AllHandedOver (paperAfter s m (upTo s m before w a mid)))
-    go (Begun.safe x) = (stored-in-it s m x before w a mid, returned-with-it s m x before w a mid, open-verdict s m x before w a mid (upTo s m before w a mid))
+    go : Begun s m
+        → ((before : List Call) (w : ℕ) (a : List ℕ) (mid : List Call) → cs ≡ before ++ request w a ∷ mid → StoredInIt s m before w a mid × ReturnedWithIt s m before w a mid)
+        × ((deviceVerdict (boxAfter s m cs .state) ≡ Complete) ⇔ AllHandedOver (paperAfter s m cs))
+    go (Begun.safe x) = (λ before w a mid e. (stored-in-it s m x before w a mid, returned-with-it s m x before w a mid), open-verdict s m x cs)
     go (Begun.shut x) = (
-      λ f y z other (e, (b, h), c) n t. never-accepted s m x before w a b h,
-      λ v g b (e, (b2, h), c) n d t. never-accepted s m x before w a b2 h,
-      shut-verdict s m x (upTo s m before w a mid),
+      λ before w a mid e. (
+        λ f y z other (q, (b, h), c) n t. never-accepted s m x before w a b h,
+        λ v g b (q, (b2, h), c) n d t. never-accepted s m x before w a b2 h,
+      ),
+      shut-verdict s m x cs,
     )

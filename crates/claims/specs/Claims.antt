@@ -92,9 +92,10 @@ module _ (s m : List ℕ) (before : List Call) (w : ℕ) (a : List ℕ) (mid : L
       × (signedAt b 24 ≡ timeOf (r .seconds) (r .microseconds) .microseconds)
       × (take (length (r .frame)) (drop (wordAt b 52) (boxAfter s m (upTo s m before w a mid) .memory)) ≡ r .frame)
 
--- DEMAND 3, of every sheet and memory at opening and every list of calls
+-- DEMAND 3, of every sheet and memory at opening and every list of calls: for every QBUF in the list both halves hold, and after the list the
+-- verdict is COMPLETE exactly when a run is over in which arrivals were accepted, all whole, stored and handed over
 abbrev pub Demand3 : Type 0
-Demand3 = (s m : List ℕ) (before : List Call) (w : ℕ) (a : List ℕ) (mid : List Call)
-    → StoredInIt s m before w a mid
-    × ReturnedWithIt s m before w a mid
-    × ((deviceVerdict (boxAfter s m (upTo s m before w a mid) .state) ≡ Complete) ⇔ AllHandedOver (paperAfter s m (upTo s m before w a mid)))
+Demand3 = (s m : List ℕ) (cs : List Call)
+    → ((before : List Call) (w : ℕ) (a : List ℕ) (mid : List Call) → cs ≡ before ++ request w a ∷ mid
+    → StoredInIt s m before w a mid × ReturnedWithIt s m before w a mid)
+    × ((deviceVerdict (boxAfter s m cs .state) ≡ Complete) ⇔ AllHandedOver (paperAfter s m cs))
