@@ -22,7 +22,7 @@ use Rattle.arrival.specs.Arrivals.{runLimit}
 use Rattle.arrival.specs.Picture.{wholePicture}
 use Rattle.status.specs.declared.Status.{Status}
 use Rattle.status.specs.declared.Verdict.{Verdict}
-use Rattle.status.specs.declared.Verdict.the-variants.{Blank, Complete}
+use Rattle.status.specs.declared.Verdict.the-variants.{Running, Blank, Gaps, Complete}
 use Rattle.status.specs.Buffer.{describedOf, returnedOf}
 use Rattle.status.specs.Film.{verdictOf}
 use Rattle.replies.specs.Replies.{bufferReply}
@@ -40,11 +40,12 @@ use Rattle.history.proofs.Every.{Kept}
 use Rattle.history.proofs.Order.{At, Leaves, pairOf, comes-first, leaves}
 use Rattle.history.proofs.Machine.{leaves-append, noted-tells, Cut, cut, keeps-after, legal-tells}
 use Rattle.history.proofs.InOrder.{isWhole, never}
-use Rattle.history.proofs.Meanings.{complete-exactly}
+use Rattle.history.proofs.Meanings.{Means, exactly}
 use Rattle.claims.specs.Calls.{Call, Reply, Box, opened, timeOf, asks, arrives, reply, next, after}
 use Rattle.claims.specs.Calls.Call.{request, arrival}
 use Rattle.claims.specs.Calls.Reply.{answered, taken}
 use Rattle.claims.specs.Words.{requestTold, arrivalTold, told, events}
+use Rattle.claims.specs.Demands.{Verdicts}
 use Rattle.claims.specs.Claims.{openingSize, paperAfter, boxAfter, queued, upTo, since, i, o, Accepted, StoredInIt, Arrival, ReturnedWithIt, Demand3}
 use Rattle.claims.proofs.Steps.{view, Timed, Safe, Foretold}
 use Rattle.claims.proofs.Open.{fits-next, foretold-next, safe-next}
@@ -261,9 +262,9 @@ module _ (s m : List ℕ) (start : Safe (opened s m) (blank (openingSize s))) wh
   safe-at : (cs : List Call) → Safe (boxAfter s m cs) (paperAfter s m cs)
   safe-at cs = safe-after cs (opened s m) (blank (openingSize s)) start
 
-  open-verdict : (cs : List Call) → (deviceVerdict (boxAfter s m cs .state) ≡ Complete) ⇔ AllHandedOver (paperAfter s m cs)
+  open-verdict : (cs : List Call) (v : Verdict) → (deviceVerdict (boxAfter s m cs .state) ≡ v) ⇔ Means (paperAfter s m cs) v
   unfolding deviceVerdict
-  open-verdict cs = rw (safe-at cs .ready) (complete-exactly (view (boxAfter s m cs)) (paperAfter s m cs) (safe-at cs .kept))
+  open-verdict cs v = rw (safe-at cs .ready) (exactly (view (boxAfter s m cs)) (paperAfter s m cs) (safe-at cs .kept) v)
 
 -- and a QBUF on it
 module _ (s m : List ℕ) (start : Safe (opened s m) (blank (openingSize s))) (before : List Call) (w : ℕ) (a : List ℕ) (mid : List Call) where
@@ -294,22 +295,35 @@ module _ (s m : List ℕ) (start : opened s m .state ≡ closedState) where
   never-accepted : (cs : List Call) (w : ℕ) (a b : List ℕ) {A : Type 0} → reply (boxAfter s m cs) (request w a) ≡ answered 0 b → A
   never-accepted cs w a b h = absurd (true≢false (cc (sym (shut-request (boxAfter s m cs) w a (shut-at cs)) ∙ h)))
 
-  shut-verdict : (cs : List Call) → (deviceVerdict (boxAfter s m cs .state) ≡ Complete) ⇔ AllHandedOver (paperAfter s m cs)
+  -- nothing was handed over: BLANK, and no other verdict
+  only-blank : (n : ℕ) (v : Verdict) → (Blank ≡ v) ⇔ Means (blank n) v
+  only-blank n Running = (λ h. absurd (true≢false (cc h)), λ h. absurd (false≢true h))
+  only-blank n Blank = (λ h. (refl, refl), λ h. refl)
+  only-blank n Gaps = (λ h. absurd (true≢false (cc h)), λ h. absurd (omega (arith, h .1)))
+  only-blank n Complete = (λ h. absurd (true≢false (cc h)), λ h. absurd (omega (arith, h .2)))
+
+  shut-verdict : (cs : List Call) (v : Verdict) → (deviceVerdict (boxAfter s m cs .state) ≡ v) ⇔ Means (paperAfter s m cs) v
   unfolding deviceVerdict
-  shut-verdict cs =
-      rw (shut-at cs) (λ h. absurd (true≢false (cc h)), λ h. absurd (omega (arith, ap (λ (p : Paper). p .run .ran) (closed-at cs .1), h .1)))
+  shut-verdict cs v =
+      rw (shut-at cs) (subst (λ (p : Paper). (Blank ≡ v) ⇔ Means p v) (sym (closed-at cs .1)) (only-blank (openingSize s) v))
+
+-- each verdict, of any device
+verdict-means : (s m : List ℕ) (cs : List Call) (v : Verdict) → (deviceVerdict (boxAfter s m cs .state) ≡ v) ⇔ Means (paperAfter s m cs) v
+verdict-means s m cs v = go (begins s m)
+  where
+    go : Begun s m → (deviceVerdict (boxAfter s m cs .state) ≡ v) ⇔ Means (paperAfter s m cs) v
+    go (Begun.safe x) = open-verdict s m x cs v
+    go (Begun.shut x) = shut-verdict s m x cs v
+
+pub verdicts-told : Verdicts
+verdicts-told s m cs = (verdict-means s m cs Running, verdict-means s m cs Blank, verdict-means s m cs Gaps, verdict-means s m cs Complete)
 
 pub demand-3 : Demand3
-demand-3 s m cs = go (begins s m)
+demand-3 s m cs = (go (begins s m), verdict-means s m cs Complete)
   where
-    go : Begun s m
-        → ((before : List Call) (w : ℕ) (a : List ℕ) (mid : List Call) → cs ≡ before ++ request w a ∷ mid → StoredInIt s m before w a mid × ReturnedWithIt s m before w a mid)
-        × ((deviceVerdict (boxAfter s m cs .state) ≡ Complete) ⇔ AllHandedOver (paperAfter s m cs))
-    go (Begun.safe x) = (λ before w a mid e. (stored-in-it s m x before w a mid, returned-with-it s m x before w a mid), open-verdict s m x cs)
-    go (Begun.shut x) = (
-      λ before w a mid e. (
-        λ f y z other (q, (b, h), c) n t. never-accepted s m x before w a b h,
-        λ v g b (q, (b2, h), c) n d t. never-accepted s m x before w a b2 h,
-      ),
-      shut-verdict s m x cs,
+    go : Begun s m → (before : List Call) (w : ℕ) (a : List ℕ) (mid : List Call) → cs ≡ before ++ request w a ∷ mid → StoredInIt s m before w a mid × ReturnedWithIt s m before w a mid
+    go (Begun.safe x) before w a mid e = (stored-in-it s m x before w a mid, returned-with-it s m x before w a mid)
+    go (Begun.shut x) before w a mid e = (
+      λ f y z other (q, (b, h), c) n t. never-accepted s m x before w a b h,
+      λ v g b (q, (b2, h), c) n d t. never-accepted s m x before w a b2 h,
     )

@@ -1,8 +1,8 @@
 -- Demands 1 and 2, and what holds of the buffers and the counts after every list of calls.
 use mathlib.Core.Path.{_≡_}
 use mathlib.Core.Logic.{_≢_}
-use mathlib.Core.Bool.{Bool, true, cond, not, _&&_, _||_}
-use Prim.Native.Nat.{ℕ, _+_, _*_, _≤_}
+use mathlib.Core.Bool.{Bool, true, false, cond, not, _&&_, _||_}
+use Prim.Native.Nat.{ℕ, _+_, _*_, _≤_, _<_}
 use mathlib.Core.List.{List, [], _∷_}
 use lib.Dec.{eqb, leb, ltb}
 use lib.ListN.{length}
@@ -20,14 +20,15 @@ use Rattle.arrival.specs.declared.Arrival.{Arrival}
 use Rattle.arrival.specs.declared.Arrival.the-variants as arrivals
 use Rattle.arrival.specs.Arrivals.{runLimit}
 use Rattle.status.specs.Buffer.{flagsOf}
+use Rattle.status.specs.declared.Verdict.the-variants.{Running, Blank, Gaps, Complete}
 use Rattle.state.specs.declared.State.{State}
 use Rattle.state.specs.Answers.{Answer}
 use Rattle.device.specs.declared.Opened.{Opened}
 use Rattle.device.specs.declared.Taken.{Taken}
 use Rattle.device.specs.Opening.{longestMemory, openedOf}
 use Rattle.device.specs.Request.{requestAnswer}
-use Rattle.device.specs.Film.{takenOf, takenMemory, devicePlaneNumber}
-use Rattle.history.specs.Claims.{timesIn, timesOut}
+use Rattle.device.specs.Film.{takenOf, takenMemory, deviceVerdict, devicePlaneNumber}
+use Rattle.history.specs.Claims.{_⇔_, timesIn, timesOut, AllHandedOver}
 use Rattle.claims.specs.Calls.{Call}
 use Rattle.claims.specs.Claims.{paperAfter, boxAfter}
 use Rattle.claims.specs.Refusals.{Check, check, firstNumber, requestChecks}
@@ -113,3 +114,13 @@ OnePlace = (s m : List ℕ) (cs : List Call) (k : ℕ)
     → (timesIn (paperAfter s m cs) k + timesOut (paperAfter s m cs) k ≤ 1)
     × (paperAfter s m cs .granted ≤ k → timesIn (paperAfter s m cs) k + timesOut (paperAfter s m cs) k ≡ 0)
     × (flagsOf (boxAfter s m cs .state .stream .queues) k ≡ 2 * timesIn (paperAfter s m cs) k + 4 * timesOut (paperAfter s m cs) k)
+
+-- THE VERDICTS: RUNNING in a run; else BLANK if none of the last run's arrivals was handed over (or there was no run, or the device is
+-- closed), GAPS if some were and not all, COMPLETE if all were
+abbrev pub Verdicts : Type 0
+Verdicts = (s m : List ℕ) (cs : List Call)
+    → ((deviceVerdict (boxAfter s m cs .state) ≡ Running) ⇔ (paperAfter s m cs .running ≡ true))
+    × ((deviceVerdict (boxAfter s m cs .state) ≡ Blank) ⇔ ((paperAfter s m cs .running ≡ false) × (paperAfter s m cs .run .handed ≡ 0)))
+    × ((deviceVerdict (boxAfter s m cs .state) ≡ Gaps)
+    ⇔ ((paperAfter s m cs .running ≡ false) × (0 < paperAfter s m cs .run .handed) × (paperAfter s m cs .run .handed < paperAfter s m cs .run .accepted)))
+    × ((deviceVerdict (boxAfter s m cs .state) ≡ Complete) ⇔ AllHandedOver (paperAfter s m cs))

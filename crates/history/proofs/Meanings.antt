@@ -32,7 +32,7 @@ verdict-told w p k =
     ap (λ (b : Bool). cond b Running (verdictAfter (w .stream .run))) (k .tied .running) ∙ ap (λ (r : Run). cond (p .running) Running (verdictAfter r)) (k .tied .run)
 
 -- What a verdict means.
-abbrev Means : Paper → Verdict → Type 0
+abbrev pub Means : Paper → Verdict → Type 0
 Means p Running = p .running ≡ true
 Means p Blank = (p .running ≡ false) × (p .run .handed ≡ 0)
 Means p Gaps = (p .running ≡ false) × (0 < p .run .handed) × (p .run .handed < p .run .accepted)
@@ -79,7 +79,7 @@ only p Complete Gaps a b = absurd (omega (arith, b .2, a .5))
 only p Complete Complete a b = refl
 
 -- each verdict exactly when it means so
-exactly : (w : World) (p : Paper) → Kept w p → (v : Verdict) → (verdictOf (w .stream) ≡ v) ⇔ Means p v
+pub exactly : (w : World) (p : Paper) → Kept w p → (v : Verdict) → (verdictOf (w .stream) ≡ v) ⇔ Means p v
 exactly w p k v =
     let e : verdictOf (w .stream) ≡ toldVerdict p = verdict-told w p k in
     (λ h. subst (Means p) (sym e ∙ h) (means p (k .sound)), λ h. e ∙ only p (toldVerdict p) v (means p (k .sound)) h)
@@ -89,7 +89,3 @@ verdicts-mean size m cs =
     let f : (v : Verdict) → (verdictOf (worldAfter size m cs .stream) ≡ v) ⇔ Means (paperAfter size m cs) v =
     exactly (worldAfter size m cs) (paperAfter size m cs) (kept size m cs) in
     (f Running, f Blank, f Gaps, f Complete)
-
--- COMPLETE, where the stream is as the paper says
-pub complete-exactly : (w : World) (p : Paper) → Kept w p → (verdictOf (w .stream) ≡ Complete) ⇔ AllHandedOver p
-complete-exactly w p k = exactly w p k Complete
