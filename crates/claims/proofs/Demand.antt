@@ -34,7 +34,8 @@ use Rattle.history.specs.Paper.{Frame, Pair, Paper, Event, indexOf, blank, refu
 use Rattle.history.specs.Paper.Event.{put, whole, damaged, handed, begun, ended, sized, idle}
 use Rattle.history.specs.Claims.{_⇔_, AllHandedOver}
 use Rattle.history.proofs.Lists.{All, all-append}
-use Rattle.history.proofs.Sound.{Sound, Fits}
+use Rattle.history.proofs.Sound.{Sound, Fits, sound-blank}
+use Rattle.history.proofs.Numbers.{Ordered, ordered-after, ordered-blank}
 use Rattle.history.proofs.Tied.{Tied, Held, entry, placedAs, firstOf}
 use Rattle.history.proofs.Every.{Kept}
 use Rattle.history.proofs.Order.{At, Leaves, pairOf, comes-first, leaves}
@@ -46,7 +47,7 @@ use Rattle.claims.specs.Calls.Call.{request, arrival}
 use Rattle.claims.specs.Calls.Reply.{answered, taken}
 use Rattle.claims.specs.Words.{requestTold, arrivalTold, told, events}
 use Rattle.claims.specs.Demands.{Verdicts}
-use Rattle.claims.specs.Claims.{openingSize, paperAfter, boxAfter, queued, upTo, since, i, o, Accepted, StoredInIt, Arrival, ReturnedWithIt, Demand3}
+use Rattle.claims.specs.Claims.{openingSize, paperAfter, handedAfter, boxAfter, queued, upTo, since, i, o, Accepted, StoredInIt, Arrival, ReturnedWithIt, Demand3}
 use Rattle.claims.proofs.Steps.{view, Timed, Safe, Foretold}
 use Rattle.claims.proofs.Open.{fits-next, foretold-next, safe-next}
 use Rattle.claims.proofs.Shut.{Shut, shut-request, shut-after, closed-shut, Begun, begins}
@@ -262,9 +263,14 @@ module _ (s m : List ℕ) (start : Safe (opened s m) (blank (openingSize s))) wh
   safe-at : (cs : List Call) → Safe (boxAfter s m cs) (paperAfter s m cs)
   safe-at cs = safe-after cs (opened s m) (blank (openingSize s)) start
 
-  open-verdict : (cs : List Call) (v : Verdict) → (deviceVerdict (boxAfter s m cs .state) ≡ v) ⇔ Means (paperAfter s m cs) v
+  ordered-at : (cs : List Call) → Ordered (paperAfter s m cs) (handedAfter s m cs)
+  ordered-at cs =
+      ordered-after (events (opened s m) (blank (openingSize s)) cs) (blank (openingSize s)) [] (sound-blank (openingSize s))
+      (legal-tells reply next told Safe safe-next fits-next cs (opened s m) (blank (openingSize s)) start) (ordered-blank (openingSize s))
+
+  open-verdict : (cs : List Call) (v : Verdict) → (deviceVerdict (boxAfter s m cs .state) ≡ v) ⇔ Means (paperAfter s m cs) (handedAfter s m cs) v
   unfolding deviceVerdict
-  open-verdict cs v = rw (safe-at cs .ready) (exactly (view (boxAfter s m cs)) (paperAfter s m cs) (safe-at cs .kept) v)
+  open-verdict cs v = rw (safe-at cs .ready) (exactly (view (boxAfter s m cs)) (paperAfter s m cs) (handedAfter s m cs) (safe-at cs .kept) (ordered-at cs) v)
 
 -- and a QBUF on it
 module _ (s m : List ℕ) (start : Safe (opened s m) (blank (openingSize s))) (before : List Call) (w : ℕ) (a : List ℕ) (mid : List Call) where
@@ -296,22 +302,22 @@ module _ (s m : List ℕ) (start : opened s m .state ≡ closedState) where
   never-accepted cs w a b h = absurd (true≢false (cc (sym (shut-request (boxAfter s m cs) w a (shut-at cs)) ∙ h)))
 
   -- nothing was handed over: BLANK, and no other verdict
-  only-blank : (n : ℕ) (v : Verdict) → (Blank ≡ v) ⇔ Means (blank n) v
-  only-blank n Running = (λ h. absurd (true≢false (cc h)), λ h. absurd (false≢true h))
-  only-blank n Blank = (λ h. (refl, refl), λ h. refl)
-  only-blank n Gaps = (λ h. absurd (true≢false (cc h)), λ h. absurd (omega (arith, h .1)))
-  only-blank n Complete = (λ h. absurd (true≢false (cc h)), λ h. absurd (omega (arith, h .2)))
+  only-blank : (n : ℕ) (l : List ℕ) (v : Verdict) → (Blank ≡ v) ⇔ Means (blank n) l v
+  only-blank n l Running = (λ h. absurd (true≢false (cc h)), λ h. absurd (false≢true h))
+  only-blank n l Blank = (λ h. (refl, refl), λ h. refl)
+  only-blank n l Gaps = (λ h. absurd (true≢false (cc h)), λ h. absurd (omega (arith, h .1)))
+  only-blank n l Complete = (λ h. absurd (true≢false (cc h)), λ h. absurd (omega (arith, h .2)))
 
-  shut-verdict : (cs : List Call) (v : Verdict) → (deviceVerdict (boxAfter s m cs .state) ≡ v) ⇔ Means (paperAfter s m cs) v
+  shut-verdict : (cs : List Call) (v : Verdict) → (deviceVerdict (boxAfter s m cs .state) ≡ v) ⇔ Means (paperAfter s m cs) (handedAfter s m cs) v
   unfolding deviceVerdict
   shut-verdict cs v =
-      rw (shut-at cs) (subst (λ (p : Paper). (Blank ≡ v) ⇔ Means p v) (sym (closed-at cs .1)) (only-blank (openingSize s) v))
+      rw (shut-at cs) (subst (λ (p : Paper). (Blank ≡ v) ⇔ Means p (handedAfter s m cs) v) (sym (closed-at cs .1)) (only-blank (openingSize s) (handedAfter s m cs) v))
 
 -- each verdict, of any device
-verdict-means : (s m : List ℕ) (cs : List Call) (v : Verdict) → (deviceVerdict (boxAfter s m cs .state) ≡ v) ⇔ Means (paperAfter s m cs) v
+verdict-means : (s m : List ℕ) (cs : List Call) (v : Verdict) → (deviceVerdict (boxAfter s m cs .state) ≡ v) ⇔ Means (paperAfter s m cs) (handedAfter s m cs) v
 verdict-means s m cs v = go (begins s m)
   where
-    go : Begun s m → (deviceVerdict (boxAfter s m cs .state) ≡ v) ⇔ Means (paperAfter s m cs) v
+    go : Begun s m → (deviceVerdict (boxAfter s m cs .state) ≡ v) ⇔ Means (paperAfter s m cs) (handedAfter s m cs) v
     go (Begun.safe x) = open-verdict s m x cs v
     go (Begun.shut x) = shut-verdict s m x cs v
 

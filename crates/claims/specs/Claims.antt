@@ -14,7 +14,7 @@ use Rattle.geometry.specs.Geometry.{lineAlignment}
 use Rattle.format.specs.Size.{imageSize}
 use Rattle.negotiation.specs.Negotiation.{openingFormat}
 use Rattle.device.specs.Film.{deviceVerdict}
-use Rattle.history.specs.Paper.{Paper, Event, blank, noted, wholes, dequeues, Calm}
+use Rattle.history.specs.Paper.{Paper, Event, blank, noted, wholes, dequeues, Calm, handedOver}
 use Rattle.history.specs.Paper.Event.{whole}
 use Rattle.history.specs.Claims.{_⇔_, AllHandedOver}
 use Rattle.claims.specs.Calls.{Call, Reply, Box, opened, timeOf, reply, next, after}
@@ -29,6 +29,10 @@ openingSize s = imageSize (openingFormat s) (lineAlignment s)
 -- the two queues and the counts on paper after a list of calls
 abbrev pub paperAfter : List ℕ → List ℕ → List Call → Paper
 paperAfter s m cs = noted (blank (openingSize s)) (events (opened s m) (blank (openingSize s)) cs)
+
+-- the numbers of the arrivals handed over in the last run
+abbrev pub handedAfter : List ℕ → List ℕ → List Call → List ℕ
+handedAfter s m cs = handedOver (blank (openingSize s)) [] (events (opened s m) (blank (openingSize s)) cs)
 
 -- device and memory after them
 abbrev pub boxAfter : List ℕ → List ℕ → List Call → Box
@@ -98,4 +102,4 @@ abbrev pub Demand3 : Type 0
 Demand3 = (s m : List ℕ) (cs : List Call)
     → ((before : List Call) (w : ℕ) (a : List ℕ) (mid : List Call) → cs ≡ before ++ request w a ∷ mid
     → StoredInIt s m before w a mid × ReturnedWithIt s m before w a mid)
-    × ((deviceVerdict (boxAfter s m cs .state) ≡ Complete) ⇔ AllHandedOver (paperAfter s m cs))
+    × ((deviceVerdict (boxAfter s m cs .state) ≡ Complete) ⇔ AllHandedOver (paperAfter s m cs) (handedAfter s m cs))

@@ -30,7 +30,7 @@ use Rattle.device.specs.Request.{requestAnswer}
 use Rattle.device.specs.Film.{takenOf, takenMemory, deviceVerdict, devicePlaneNumber}
 use Rattle.history.specs.Claims.{_⇔_, timesIn, timesOut, AllHandedOver}
 use Rattle.claims.specs.Calls.{Call}
-use Rattle.claims.specs.Claims.{paperAfter, boxAfter}
+use Rattle.claims.specs.Claims.{paperAfter, handedAfter, boxAfter}
 use Rattle.claims.specs.Refusals.{Check, check, firstNumber, requestChecks}
 
 -- ---- demand 1
@@ -123,4 +123,4 @@ Verdicts = (s m : List ℕ) (cs : List Call)
     × ((deviceVerdict (boxAfter s m cs .state) ≡ Blank) ⇔ ((paperAfter s m cs .running ≡ false) × (paperAfter s m cs .run .handed ≡ 0)))
     × ((deviceVerdict (boxAfter s m cs .state) ≡ Gaps)
     ⇔ ((paperAfter s m cs .running ≡ false) × (0 < paperAfter s m cs .run .handed) × (paperAfter s m cs .run .handed < paperAfter s m cs .run .accepted)))
-    × ((deviceVerdict (boxAfter s m cs .state) ≡ Complete) ⇔ AllHandedOver (paperAfter s m cs))
+    × ((deviceVerdict (boxAfter s m cs .state) ≡ Complete) ⇔ AllHandedOver (paperAfter s m cs) (handedAfter s m cs))

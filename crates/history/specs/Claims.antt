@@ -17,7 +17,7 @@ use Rattle.status.specs.declared.Verdict.the-variants.{Running, Blank, Gaps, Co
 use Rattle.history.specs.Calls.{Call, Answer, World, opened, answer, next, after}
 use Rattle.history.specs.Calls.Call.{enqueue, dequeue, arrival}
 use Rattle.history.specs.Calls.Answer.{replied, arrived}
-use Rattle.history.specs.Paper.{Paper, Event, blank, indexOf, told, step, noted, events, wholes, dequeues, Calm}
+use Rattle.history.specs.Paper.{Paper, Event, blank, indexOf, told, step, noted, events, wholes, dequeues, Calm, handedOver, numbersBelow}
 use Rattle.history.specs.Paper.Event.{whole}
 
 -- the paper after a list of calls from an opening
@@ -127,10 +127,16 @@ AddsUp = (size : ℕ) (m : List ℕ) (cs : List Call)
 
 -- ---- e. the verdicts
 
--- a run is over in which at least one arrival was accepted, and every one was whole, found a buffer and was handed over
-abbrev pub AllHandedOver : Paper → Type 0
-AllHandedOver p =
+-- the numbers of the arrivals handed over in the last run, after a list of calls
+abbrev pub handedAfter : ℕ → List ℕ → List Call → List ℕ
+handedAfter size m cs = handedOver (blank size) [] (events (opened size m) (blank size) cs)
+
+-- a run is over in which at least one arrival was accepted, and every one was whole, found a buffer and was handed over: none was damaged, none
+-- dropped, as many were handed over as accepted, and their numbers l are 0, 1, 2 and so on up to the last
+abbrev pub AllHandedOver : Paper → List ℕ → Type 0
+AllHandedOver p l =
     (p .running ≡ false) × (p .run .ran ≡ 1) × (0 < p .run .accepted) × (p .run .damaged ≡ 0) × (p .run .dropped ≡ 0) × (p .run .handed ≡ p .run .accepted)
+    × (l ≡ numbersBelow (p .run .accepted))
 
 -- RUNNING while streaming; BLANK if none was handed over; GAPS if some were and not all; COMPLETE exactly when all were
 abbrev pub Verdicts : Type 0
@@ -139,4 +145,4 @@ Verdicts = (size : ℕ) (m : List ℕ) (cs : List Call)
     × ((verdictOf (worldAfter size m cs .stream) ≡ Blank) ⇔ ((paperAfter size m cs .running ≡ false) × (paperAfter size m cs .run .handed ≡ 0)))
     × ((verdictOf (worldAfter size m cs .stream) ≡ Gaps)
     ⇔ ((paperAfter size m cs .running ≡ false) × (0 < paperAfter size m cs .run .handed) × (paperAfter size m cs .run .handed < paperAfter size m cs .run .accepted)))
-    × ((verdictOf (worldAfter size m cs .stream) ≡ Complete) ⇔ AllHandedOver (paperAfter size m cs))
+    × ((verdictOf (worldAfter size m cs .stream) ≡ Complete) ⇔ AllHandedOver (paperAfter size m cs) (handedAfter size m cs))

@@ -1,5 +1,5 @@
 -- The two queues on paper, and what became of the arrivals of the last run: told from the calls and their answers alone.
-use Prim.Native.Nat.{ℕ, suc, _+_}
+use Prim.Native.Nat.{ℕ, zero, suc, _+_}
 use mathlib.Core.Bool.{Bool, true, false, cond, _&&_}
 use mathlib.Core.List.{List, [], _∷_, _++_, map}
 use lib.Dec.{leb}
@@ -158,6 +158,36 @@ step p idle = p
 abbrev pub noted : Paper → List Event → Paper
 noted p [] = p
 noted p (e ∷ es) = noted (step p e) es
+
+-- the number of the arrival in a pair
+abbrev pub numberOf : Pair → ℕ
+numberOf x = x .frame .number
+
+-- the first of a list, alone
+abbrev pub first : {A : Type 0} → List A → List A
+first [] = []
+first (x ∷ xs) = x ∷ []
+
+-- the numbers of the arrivals that were handed over in the run, after an event
+abbrev pub given : Paper → List ℕ → Event → List ℕ
+given p l (put k) = l
+given p l (whole b t) = l
+given p l damaged = l
+given p l handed = l ++ map numberOf (first (p .outgoing))
+given p l begun = []
+given p l (ended n) = l
+given p l (sized n) = l
+given p l idle = l
+
+-- and after a list of events
+abbrev pub handedOver : Paper → List ℕ → List Event → List ℕ
+handedOver p l [] = l
+handedOver p l (e ∷ es) = handedOver (step p e) (given p l e) es
+
+-- the numbers below n, in their order
+abbrev pub numbersBelow : ℕ → List ℕ
+numbersBelow zero = []
+numbersBelow (suc n) = numbersBelow n ++ (n ∷ [])
 
 -- the events that a list of calls and their answers tell, on any machine: how it answers, what it leaves, what that tells
 abbrev pub tells : {W C A : Type 0} → (W → C → A) → (W → C → W) → (Paper → C → A → Event) → W → Paper → List C → List Event

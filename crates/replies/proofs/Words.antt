@@ -16,7 +16,7 @@ use Rattle.wire.proofs.Words.{length-bytesOf, word-of}
 use Rattle.wire.proofs.Integers.{signed-bits}
 use Rattle.geometry.specs.declared.Rect.{Rect}
 use Rattle.status.specs.declared.Status.{Status}
-use Rattle.replies.specs.Replies.{capabilityReply, descriptionReply, buffersReply, bufferReply, valueReply, cropReply, cropCapabilityReply}
+use Rattle.replies.specs.Replies.{capabilityReply, descriptionReply, buffersReply, bufferReply, valueReply, cropReply, cropCapabilityReply, bufferWords}
 
 -- ---- lengths, those of the header's structures
 
@@ -61,12 +61,6 @@ crop-capability-length s = length-bytesOf _
 pub buffers-count : (n : ℕ) → n < 2 ^ 32 → wordAt (buffersReply n) 0 ≡ n
 unfolding buffersReply
 buffers-count n h = word-of (n ∷ 1 ∷ 1 ∷ 0 ∷ 0 ∷ []) 0 (omega arith) h
-
--- the words that describe a buffer
-abbrev pub bufferWords : Status → List ℕ
-bufferWords b =
-    b .index ∷ 1 ∷ b .used ∷ b .flags ∷ 1 ∷ bits (b .time .seconds) ∷ bits (b .time .microseconds) ∷ 0 ∷ 0 ∷ 0 ∷ 0
-    ∷ b .number ∷ 1 ∷ b .offset % 2 ^ 32 ∷ b .length % 2 ^ 32 ∷ 0 ∷ 0 ∷ []
 
 -- the 32 bits of a signed number are a word
 bits-fit : (z : ℤ) → mag z < 2 ^ 31 → bits z < 2 ^ 32

@@ -24,10 +24,13 @@ unfoldable pub buffersReply : ℕ → List ℕ
 buffersReply count = bytesOf (count ∷ 1 ∷ 1 ∷ 0 ∷ 0 ∷ [])
 
 -- QUERYBUF, QBUF, DQBUF: index, type, bytes used, flags, field none, time, no time code, number, memory, offset, length, the rest zero
+abbrev pub bufferWords : Status → List ℕ
+bufferWords b =
+    b .index ∷ 1 ∷ b .used ∷ b .flags ∷ 1 ∷ bits (b .time .seconds) ∷ bits (b .time .microseconds) ∷ 0 ∷ 0 ∷ 0 ∷ 0
+    ∷ b .number ∷ 1 ∷ b .offset % 2 ^ 32 ∷ b .length % 2 ^ 32 ∷ 0 ∷ 0 ∷ []
+
 unfoldable pub bufferReply : Status → List ℕ
-bufferReply b =
-    bytesOf (b .index ∷ 1 ∷ b .used ∷ b .flags ∷ 1 ∷ bits (b .time .seconds) ∷ bits (b .time .microseconds) ∷ 0 ∷ 0 ∷ 0 ∷ 0
-    ∷ b .number ∷ 1 ∷ b .offset % 2 ^ 32 ∷ b .length % 2 ^ 32 ∷ 0 ∷ 0 ∷ [])
+bufferReply b = bytesOf (bufferWords b)
 
 -- QUERYCTRL: the 68 bytes of the sheet, which are laid out alike
 unfoldable pub controlReply : List ℕ → ℕ → List ℕ
