@@ -1,14 +1,13 @@
 -- Arrivals, openings and planes by the refusal table, and what a refusal leaves.
-use mathlib.Core.Path.{_≡_, refl, sym, ap, _∙_}
+use mathlib.Core.Path.{_≡_, refl, ap, _∙_}
 use mathlib.Core.Logic.{_≢_}
-use mathlib.Core.Bool.{Bool, true, false, cond, not, _&&_, _||_}
+use mathlib.Core.Bool.{Bool, true, false, cond, not, _&&_}
 use Prim.Native.Nat.{ℕ}
 use lib.Dec.{eqb, leb, ltb}
-use mathlib.Core.List.{List, [], _∷_}
+use mathlib.Core.List.{List}
 use lib.ListN.{length}
-use Rattle.ioctl.specs.declared.refusals.Refusal.the-variants.{MemoryLength, Closed, BadSheet, MemoryTooLong, NoSuchPlane, RunFull}
-use Rattle.geometry.specs.Geometry.{lineAlignment}
-use Rattle.planes.specs.Planes.{planeRefused, planeNumber}
+use Rattle.ioctl.specs.declared.refusals.Refusal.the-variants.{MemoryLength, Closed, BadSheet, MemoryTooLong, RunFull}
+use Rattle.planes.specs.Planes.{planeNumber}
 use Rattle.sheet.specs.Rules.{goodSheet}
 use Rattle.buffers.specs.declared.Time.{Time}
 use Rattle.stream.specs.declared.Stream.{Stream}
@@ -25,7 +24,7 @@ use Rattle.device.specs.declared.Opened.{Opened}
 use Rattle.device.specs.declared.Taken.{Taken}
 use Rattle.device.specs.Opening.{longestMemory, closedBy, openedOf}
 use Rattle.device.specs.Film.{pictureArrives, takenOf, takenMemory, devicePlaneNumber}
-use Rattle.claims.specs.Refusals.{Check, firstNumber}
+use Rattle.claims.specs.Refusals.{firstNumber}
 use Rattle.claims.specs.Demands.{known, arrivalNumber, arrivalChecks, ArrivalAnswered, OpeningAnswered, PlaneAnswered}
 use Rattle.claims.proofs.Honest.{first-known}
 use Rattle.claims.proofs.Open.{long-written}

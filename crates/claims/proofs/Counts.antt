@@ -1,8 +1,7 @@
 -- The history equation and the places of buffers, after every list of calls on a device.
-use mathlib.Core.Path.{_≡_, refl, sym, ap, _∙_, subst}
+use mathlib.Core.Path.{_≡_, refl, sym, ap, _∙_}
 use Prim.Native.Nat.{ℕ, _+_, _*_, _≤_}
 use native.Mathlib.Omega.{arith}
-use mathlib.Core.List.{List, []}
 use lib.ListN.{length}
 use Rattle.buffers.specs.declared.Queues.{Queues}
 use Rattle.buffers.specs.Search.{any}
@@ -15,7 +14,7 @@ use Rattle.state.specs.State.{closedState}
 use Rattle.history.specs.Paper.{Paper, blank}
 use Rattle.history.specs.Claims.{timesIn, timesOut}
 use Rattle.history.proofs.Places.{placed}
-use Rattle.claims.specs.Calls.{Call, opened}
+use Rattle.claims.specs.Calls.{opened}
 use Rattle.claims.specs.Claims.{openingSize, paperAfter, boxAfter}
 use Rattle.claims.specs.Demands.{HistoryEquation, OnePlace}
 use Rattle.claims.proofs.Steps.{view, Safe}

@@ -1,7 +1,7 @@
 -- Demand 3 holds.
 use mathlib.Core.Path.{_≡_, refl, sym, ap, _∙_, subst}
 use mathlib.Core.Bool.{Bool, true, false, cond, true≢false, false≢true}
-use Prim.Native.Nat.{ℕ, _+_, _*_, _^_, _≤_, _<_}
+use Prim.Native.Nat.{ℕ, _+_, _^_, _≤_, _<_}
 use native.Mathlib.Omega.{arith}
 use lib.Dec.{eqb}
 use mathlib.Core.List.{List, [], _∷_, _++_, map, append-assoc}
@@ -15,7 +15,7 @@ use Rattle.format.proofs.Bounds.{image-fits}
 use Rattle.geometry.specs.Geometry.{lineAlignment}
 use Rattle.buffers.specs.declared.Time.{Time}
 use Rattle.buffers.specs.declared.Filled.{Filled}
-use Rattle.buffers.specs.Slot.{slotSize, slotOffset}
+use Rattle.buffers.specs.Slot.{slotOffset}
 use Rattle.buffers.proofs.Slots.{slots-apart}
 use Rattle.arrival.specs.declared.Arrival.the-variants as arrivals
 use Rattle.arrival.specs.Arrivals.{runLimit}
@@ -24,30 +24,27 @@ use Rattle.status.specs.declared.Status.{Status}
 use Rattle.status.specs.declared.Verdict.{Verdict}
 use Rattle.status.specs.declared.Verdict.the-variants.{Running, Blank, Gaps, Complete}
 use Rattle.status.specs.Buffer.{describedOf, returnedOf}
-use Rattle.status.specs.Film.{verdictOf}
 use Rattle.replies.specs.Replies.{bufferReply}
 use Rattle.replies.proofs.Words.{buffer-index, buffer-used, buffer-number, buffer-offset, buffer-seconds, buffer-microseconds}
 use Rattle.state.specs.State.{closedState, frameSize}
-use Rattle.device.specs.Opening.{longestMemory}
 use Rattle.device.specs.Film.{deviceVerdict}
-use Rattle.history.specs.Paper.{Frame, Pair, Paper, Event, indexOf, blank, refusedArrival, frameOf, filled, step, noted, wholes, dequeues, Calm}
-use Rattle.history.specs.Paper.Event.{put, whole, damaged, handed, begun, ended, sized, idle}
-use Rattle.history.specs.Claims.{_⇔_, AllHandedOver}
+use Rattle.history.specs.Paper.{Pair, Paper, Event, indexOf, blank, refusedArrival, frameOf, filled, step, noted, wholes, dequeues, Calm}
+use Rattle.history.specs.Paper.Event.{put, whole, damaged, handed, begun, idle}
+use Rattle.history.specs.Claims.{_⇔_}
 use Rattle.history.proofs.Lists.{All, all-append}
-use Rattle.history.proofs.Sound.{Sound, Fits, sound-blank}
+use Rattle.history.proofs.Sound.{Fits, sound-blank}
 use Rattle.history.proofs.Numbers.{Ordered, ordered-after, ordered-blank}
 use Rattle.history.proofs.Tied.{Tied, Held, entry, placedAs, firstOf}
-use Rattle.history.proofs.Every.{Kept}
 use Rattle.history.proofs.Order.{At, Leaves, pairOf, comes-first, leaves}
 use Rattle.history.proofs.Machine.{leaves-append, noted-tells, Cut, cut, keeps-after, legal-tells}
 use Rattle.history.proofs.InOrder.{isWhole, never}
 use Rattle.history.proofs.Meanings.{Means, exactly}
-use Rattle.claims.specs.Calls.{Call, Reply, Box, opened, timeOf, asks, arrives, reply, next, after}
+use Rattle.claims.specs.Calls.{Call, Box, opened, timeOf, asks, arrives, reply, next, after}
 use Rattle.claims.specs.Calls.Call.{request, arrival}
 use Rattle.claims.specs.Calls.Reply.{answered, taken}
-use Rattle.claims.specs.Words.{requestTold, arrivalTold, told, events}
+use Rattle.claims.specs.Words.{requestTold, told, events}
 use Rattle.claims.specs.Demands.{Verdicts}
-use Rattle.claims.specs.Claims.{openingSize, paperAfter, handedAfter, boxAfter, queued, upTo, since, i, o, Accepted, StoredInIt, Arrival, ReturnedWithIt, Demand3}
+use Rattle.claims.specs.Claims.{openingSize, paperAfter, handedAfter, boxAfter, StoredInIt, Arrival, ReturnedWithIt, Demand3}
 use Rattle.claims.proofs.Steps.{view, Timed, Safe, Foretold}
 use Rattle.claims.proofs.Open.{fits-next, foretold-next, safe-next}
 use Rattle.claims.proofs.Shut.{Shut, shut-request, shut-after, closed-shut, Begun, begins}

@@ -1,5 +1,5 @@
 -- Demand 2: trying a format predicts what setting it gives.
-use mathlib.Core.Path.{_≡_, refl, sym, ap, _∙_, subst}
+use mathlib.Core.Path.{_≡_, refl, sym, ap, _∙_}
 use mathlib.Core.Bool.{Bool, true, false, cond, not}
 use Prim.Native.Nat.{ℕ}
 use borrow.Author.Tests.{eqb-true, eq-eqb}
@@ -12,7 +12,7 @@ use Rattle.wire.specs.Words.{wordAt}
 use Rattle.wire.proofs.Stores.{sets-all}
 use Rattle.ioctl.specs.Table.{argumentSize, requestOf}
 use Rattle.ioctl.specs.declared.table.Call.{Call}
-use Rattle.ioctl.specs.declared.table.Call.the-variants.{SFmt, TryFmt, GFmt}
+use Rattle.ioctl.specs.declared.table.Call.the-variants.{TryFmt}
 use Rattle.ioctl.proofs.Numbers.{errno-positive}
 use Rattle.ioctl.specs.declared.refusals.Refusal.{Refusal}
 use Rattle.ioctl.specs.declared.refusals.Refusal.the-variants.{ArgumentLength, Closed, UnknownWord, WrongType, BuffersExist}

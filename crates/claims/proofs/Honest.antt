@@ -1,22 +1,20 @@
 -- A refusal changes nothing, and every answer has a number of the table.
-use mathlib.Core.Path.{_≡_, refl, sym, ap, _∙_, subst}
+use mathlib.Core.Path.{_≡_, refl, ap, _∙_}
 use mathlib.Core.Logic.{_≢_}
-use mathlib.Core.Bool.{Bool, true, false, cond, not, _&&_, _||_, true≢false}
-use Prim.Native.Nat.{ℕ, _<_}
-use native.Mathlib.Omega.{arith}
-use borrow.Author.Tests.{eqb-true, ne-eqb}
-use lib.Dec.{eqb, leb, ltb}
+use mathlib.Core.Bool.{Bool, true, false, cond, not, _||_}
+use Prim.Native.Nat.{ℕ}
+use lib.Dec.{eqb, leb}
 use mathlib.Core.List.{List, [], _∷_}
 use lib.ListN.{length, set}
 use lib.Seq.{sets, length-sets}
 use Rattle.wire.specs.Words.{wordAt}
-use Rattle.ioctl.specs.Refusal.{errnoOf, numbered}
+use Rattle.ioctl.specs.Refusal.{errnoOf}
 use Rattle.ioctl.specs.Table.{requestOf}
 use Rattle.ioctl.specs.declared.refusals.Refusal.{Refusal}
-use Rattle.ioctl.specs.declared.refusals.Refusal.the-variants.{ArgumentLength, Closed, UnknownWord, WrongType, WrongMemory, NoSuchIndex, NoSuchControl, BuffersExist, MemoryLength, RunFull, BadSheet, MemoryTooLong, NoSuchPlane}
+use Rattle.ioctl.specs.declared.refusals.Refusal.the-variants.{ArgumentLength, Closed, UnknownWord, WrongType, WrongMemory, NoSuchIndex, NoSuchControl, BuffersExist}
 use Rattle.ioctl.specs.declared.table.Call.{Call}
 use Rattle.ioctl.specs.declared.table.Call.the-variants.{Unknown, Querycap, EnumFmt, GFmt, SFmt, TryFmt, Reqbufs, Querybuf, Qbuf, Dqbuf, Streamon, Streamoff, GCtrl, SCtrl, Queryctrl, Cropcap, GCrop, SCrop}
-use Rattle.ioctl.proofs.Numbers.{errno-known, errno-positive}
+use Rattle.ioctl.proofs.Numbers.{errno-known}
 use Rattle.fields.specs.Fields.{formatCount}
 use Rattle.control.specs.Find.{present, queriedPlace}
 use Rattle.control.specs.Values.{reading, settingOf}

@@ -1,13 +1,13 @@
 -- An open device stays as the paper says, call by call.
 use mathlib.Core.Path.{_≡_, refl, sym, ap, _∙_, subst}
-use mathlib.Core.Bool.{Bool, true, false, cond, _&&_, true≢false, false≢true}
-use Prim.Native.Nat.{ℕ, _+_, _*_, _%_, _^_, _≤_, _<_}
+use mathlib.Core.Bool.{Bool, true, false, cond, _&&_}
+use Prim.Native.Nat.{ℕ, _%_, _^_}
 use native.Mathlib.Omega.{arith}
-use borrow.Author.Tests.{eqb-true, eqb-false, le-leb}
+use borrow.Author.Tests.{eqb-true, le-leb}
 use lib.Dec.{leb, eqb}
-use mathlib.Core.List.{List, [], _∷_, _++_}
+use mathlib.Core.List.{List, [], _∷_}
 use lib.ListN.{length}
-use lib.Seq.{sets, length-sets}
+use lib.Seq.{length-sets}
 use Rattle.wire.proofs.Integers.{signed-fits}
 use Rattle.ioctl.specs.Table.{requestOf}
 use Rattle.buffers.specs.declared.Time.{Time}
@@ -19,21 +19,19 @@ use Rattle.arrival.specs.Arrivals.{writtenBy}
 use Rattle.arrival.specs.Picture.{inSecond, wholePicture}
 use Rattle.state.specs.State.{frameSize}
 use Rattle.device.specs.declared.Taken.{Taken}
-use Rattle.device.specs.Opening.{longestMemory}
 use Rattle.device.specs.Film.{pictureArrives, takenOf, takenMemory}
 use Rattle.history.specs.Calls.{World}
 use Rattle.history.specs.Calls.Call.{arrival as comes}
-use Rattle.history.specs.Calls.Answer.{replied, arrived}
+use Rattle.history.specs.Calls.Answer.{arrived}
 use Rattle.history.specs.Paper.{Frame, Pair, Paper, Event, refusedArrival, frameOf, rest, filled, step}
 use Rattle.history.specs.Paper.Event.{put, whole, damaged, handed, begun, ended, sized, idle}
 use Rattle.history.proofs.Lists.{All, all-snoc}
-use Rattle.history.proofs.Sound.{Sound, Fits, sound-step}
-use Rattle.history.proofs.Tied.{Tied, Answers, Follows, placedAs, follows}
-use Rattle.history.proofs.Every.{Kept}
-use Rattle.claims.specs.Calls.{Call, Box, Reply, timeOf, asks, lent, arrives, reply, next}
+use Rattle.history.proofs.Sound.{Fits, sound-step}
+use Rattle.history.proofs.Tied.{Tied, Answers, follows}
+use Rattle.claims.specs.Calls.{Call, Box, timeOf, asks, lent, arrives, reply, next}
 use Rattle.claims.specs.Calls.Call.{request, arrival}
-use Rattle.claims.specs.Calls.Reply.{answered, taken}
-use Rattle.claims.specs.Words.{requestTold, arrivalTold, told}
+use Rattle.claims.specs.Calls.Reply.{taken}
+use Rattle.claims.specs.Words.{arrivalTold, told}
 use Rattle.claims.proofs.Steps.{view, Timed, Safe, Foretold, Timely, Does, does-request}
 
 -- What a call does.

@@ -5,40 +5,35 @@ use Prim.Native.Nat.{ℕ, _≤_}
 use native.Mathlib.Omega.{arith}
 use borrow.Author.Tests.{ltb-false}
 use lib.Dec.{eqb, ltb}
-use mathlib.Core.List.{List, [], _∷_}
+use mathlib.Core.List.{List}
 use lib.ListN.{length}
 use Rattle.ioctl.specs.declared.refusals.Refusal.{Refusal}
 use Rattle.ioctl.specs.declared.refusals.Refusal.the-variants.{BadSheet, MemoryTooLong}
 use Rattle.fields.specs.Copy.{keptOf}
-use Rattle.fields.specs.Fields.{formatCode}
 use Rattle.fields.proofs.Copies.{kept-code}
-use Rattle.geometry.specs.Geometry.{widthsOf, heightsOf, lineAlignment}
 use Rattle.geometry.specs.declared.Range.{Range}
 use Rattle.geometry.proofs.Copies.{kept-widths, kept-heights, kept-alignment}
 use Rattle.sheet.specs.Rules.{goodSheet}
 use Rattle.sheet.proofs.Good.{fits-copy}
 use Rattle.format.specs.declared.Format.{Format}
-use Rattle.format.specs.Size.{imageSize}
 use Rattle.negotiation.specs.Negotiation.{openingFormat}
 use Rattle.state.specs.declared.State.{State}
 use Rattle.state.specs.State.{closedState, openingState, frameSize}
 use Rattle.device.specs.declared.Opened.{Opened}
 use Rattle.device.specs.Opening.{longestMemory, closedBy, openedOf}
 use Rattle.device.specs.Request.{requestAnswer}
-use Rattle.device.specs.Film.{takenOf, takenMemory}
-use Rattle.history.specs.Calls.{opened as streamOpened}
-use Rattle.history.specs.Paper.{Paper, Event, blank, step, noted}
+use Rattle.device.specs.Film.{takenOf}
+use Rattle.history.specs.Paper.{Paper, blank, step, noted}
 use Rattle.history.specs.Paper.Event.{idle}
 use Rattle.history.proofs.Sound.{sound-blank}
 use Rattle.history.proofs.Tied.{tied-opened}
-use Rattle.history.proofs.Every.{Kept}
 use Rattle.history.proofs.Machine.{keeps-after}
-use Rattle.claims.specs.Calls.{Call, Reply, Box, opened, timeOf, lent, reply, next, after}
+use Rattle.claims.specs.Calls.{Call, Box, opened, reply, next, after}
 use Rattle.claims.specs.Calls.Call.{request, arrival}
-use Rattle.claims.specs.Calls.Reply.{answered, taken}
+use Rattle.claims.specs.Calls.Reply.{answered}
 use Rattle.claims.specs.Words.{told, events}
 use Rattle.claims.specs.Claims.{openingSize}
-use Rattle.claims.proofs.Steps.{view, Safe}
+use Rattle.claims.proofs.Steps.{Safe}
 
 -- ---- closed
 

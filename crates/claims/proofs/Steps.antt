@@ -1,19 +1,16 @@
 -- Every call on an open device is a call on its stream, or leaves the stream alone.
 use mathlib.Core.Path.{_≡_, refl, sym, ap, _∙_, subst}
-use mathlib.Core.Bool.{Bool, true, false, cond, not, _&&_, true≢false, false≢true}
-use Prim.Native.Nat.{ℕ, zero, suc, _+_, _*_, _%_, _^_, _≤_, _<_}
+use mathlib.Core.Bool.{Bool, true, false, cond, not, _&&_, true≢false}
+use Prim.Native.Nat.{ℕ, _^_, _≤_, _<_}
 use native.Mathlib.Omega.{arith}
-use borrow.Author.Tests.{eqb-true, eqb-false, eq-eqb, ne-eqb, le-leb, leb-true}
+use borrow.Author.Tests.{eqb-true, ne-eqb}
 use lib.Dec.{leb, eqb}
-use lib.IntN.{ℤ}
 use lib.Signed.{mag}
-use mathlib.Core.List.{List, [], _∷_, _++_, map}
-use lib.ListN.{length, length-map}
-use lib.Seq.{sets, length-sets}
+use mathlib.Core.List.{List}
+use lib.ListN.{length}
+use lib.Seq.{sets}
 use Rattle.wire.specs.Words.{wordAt}
-use Rattle.wire.specs.Signed.{signed}
 use Rattle.wire.proofs.Stores.{sets-all}
-use Rattle.wire.proofs.Integers.{signed-fits}
 use Rattle.ioctl.specs.Refusal.{errnoOf}
 use Rattle.ioctl.specs.Table.{argumentSize, requestOf}
 use Rattle.ioctl.specs.declared.refusals.Refusal.{Refusal}
@@ -41,7 +38,7 @@ use Rattle.stream.specs.Numbers.{replyNumber}
 use Rattle.stream.proofs.Grants.{grant-few}
 use Rattle.status.specs.declared.Queried.{Queried}
 use Rattle.status.specs.declared.Queried.the-variants as queries
-use Rattle.status.specs.Buffer.{statusOf, queryOf, returnedOf}
+use Rattle.status.specs.Buffer.{queryOf, returnedOf}
 use Rattle.fields.specs.Fields.{formatCount}
 use Rattle.control.specs.Find.{present, queriedPlace}
 use Rattle.control.specs.Values.{reading, settingOf}
@@ -53,7 +50,7 @@ use Rattle.replies.specs.Replies.{buffersReply, bufferReply}
 use Rattle.replies.proofs.Words.{buffers-length, buffer-length, buffers-count}
 use Rattle.state.specs.declared.State.{State}
 use Rattle.state.specs.State.{frameSize, withFormat, withStream}
-use Rattle.state.specs.Answers.{Answer, done, refusedWith, refused, typed, mapped}
+use Rattle.state.specs.Answers.{Answer, done, refusedWith, refused}
 use Rattle.settings.specs.Settings.{querycapOf, enumFmtOf, gFmtOf, sFmtOf, tryFmtOf, cropcapOf, gCropOf, sCropOf}
 use Rattle.controls.specs.Controls.{queryctrlOf, gCtrlOf, sCtrlOf, readAs, setAs}
 use Rattle.streaming.specs.Streaming.{stepped, queriedAs, reqbufsOf, querybufOf, qbufOf, dqbufOf, streamonOf, streamoffOf}
@@ -61,12 +58,12 @@ use Rattle.device.specs.Opening.{longestMemory}
 use Rattle.device.specs.Request.{callAnswer, requestAnswer}
 use Rattle.history.specs.Calls.{Call as StreamCall, World, sizeReply}
 use Rattle.history.specs.Calls.Call.{request as asks-for, enqueue as hands-in, dequeue as takes-out, start as starts, stop as stops, resize as resizes}
-use Rattle.history.specs.Calls.Answer.{replied, arrived}
-use Rattle.history.specs.Paper.{Pair, Paper, Event, refusedReply, grantIn, repliedTold, frameOf, filled, step}
+use Rattle.history.specs.Calls.Answer.{replied}
+use Rattle.history.specs.Paper.{Paper, Event, refusedReply, grantIn, repliedTold, step}
 use Rattle.history.specs.Paper.Event.{put, whole, damaged, handed, begun, ended, sized, idle}
-use Rattle.history.proofs.Lists.{All, all-snoc}
-use Rattle.history.proofs.Sound.{Sound, Fits, sound-step}
-use Rattle.history.proofs.Tied.{Tied, Follows, placedAs, firstOf, entry, first-entry, follows}
+use Rattle.history.proofs.Lists.{All}
+use Rattle.history.proofs.Sound.{Fits}
+use Rattle.history.proofs.Tied.{Tied, Follows, placedAs, firstOf, first-entry, follows}
 use Rattle.history.proofs.Every.{Kept}
 use Rattle.claims.specs.Calls.{Box, Reply}
 use Rattle.claims.specs.Calls.Reply.{answered, taken}

@@ -1,13 +1,11 @@
 -- The number of every request is that of the refusal table.
-use mathlib.Core.Path.{_≡_, refl, sym, ap, _∙_, subst}
-use mathlib.Core.Bool.{Bool, true, false, cond, not, _&&_, _||_, true≢false}
-use Prim.Native.Nat.{ℕ, _/_, _%_, _<_}
-use native.Mathlib.Omega.{arith}
-use borrow.Author.Tests.{eqb-true, ne-eqb}
+use mathlib.Core.Path.{_≡_, refl, sym, _∙_}
+use mathlib.Core.Bool.{Bool, true, false, cond, not, _&&_, _||_}
+use Prim.Native.Nat.{ℕ, _/_, _%_}
+use borrow.Author.Tests.{eqb-true}
 use lib.Dec.{eqb, leb}
-use lib.IntN.{ℤ}
 use lib.Signed.{ltZ}
-use mathlib.Core.List.{List, [], _∷_}
+use mathlib.Core.List.{List}
 use lib.ListN.{length}
 use Rattle.wire.specs.Words.{wordAt}
 use Rattle.wire.specs.Signed.{signed, bits}
@@ -15,12 +13,12 @@ use Rattle.grid.specs.Grid.{nearestValue}
 use Rattle.ioctl.specs.Refusal.{errnoOf}
 use Rattle.ioctl.specs.Table.{requestOf}
 use Rattle.ioctl.specs.declared.refusals.Refusal.{Refusal}
-use Rattle.ioctl.specs.declared.refusals.Refusal.the-variants.{ArgumentLength, Closed, UnknownWord, WrongType, WrongMemory, NoSuchIndex, NoSuchControl, NotDequeued, NoBuffers, ControlDisabled, ControlReadOnly, ControlIsButton, BuffersExist, Streaming, ControlGrabbed, OutOfRange, NothingOutgoing}
+use Rattle.ioctl.specs.declared.refusals.Refusal.the-variants.{ArgumentLength, Closed, UnknownWord, WrongType, WrongMemory, NoSuchIndex, NoSuchControl, ControlDisabled, ControlReadOnly, ControlIsButton, BuffersExist, ControlGrabbed, OutOfRange}
 use Rattle.ioctl.specs.declared.table.Call.{Call}
 use Rattle.ioctl.specs.declared.table.Call.the-variants.{Unknown, Querycap, EnumFmt, GFmt, SFmt, TryFmt, Reqbufs, Querybuf, Qbuf, Dqbuf, Streamon, Streamoff, GCtrl, SCtrl, Queryctrl, Cropcap, GCrop, SCrop}
 use Rattle.fields.specs.declared.Control.{Control}
 use Rattle.fields.specs.declared.Limits.{Limits}
-use Rattle.fields.specs.Fields.{formatCount, controlFields}
+use Rattle.fields.specs.Fields.{formatCount}
 use Rattle.control.specs.Find.{present, placeOf, queriedPlace}
 use Rattle.control.specs.Values.{readingAt, reading, rangedAt, settingAt, settingOf}
 use Rattle.control.specs.declared.Reading.{Reading}
@@ -45,7 +43,7 @@ use Rattle.settings.specs.Settings.{querycapOf, enumFmtOf, gFmtOf, sFmtOf, tryF
 use Rattle.controls.specs.Controls.{queryctrlOf, gCtrlOf, sCtrlOf, readAs, setAs}
 use Rattle.streaming.specs.Streaming.{stepped, queriedAs, reqbufsOf, querybufOf, qbufOf, dqbufOf, streamonOf, streamoffOf}
 use Rattle.device.specs.Request.{callAnswer, requestAnswer}
-use Rattle.claims.specs.Refusals.{Check, check, firstNumber, wrongType, wrongMemory, named, outOfRange, checks, requestChecks}
+use Rattle.claims.specs.Refusals.{firstNumber, named, outOfRange, checks, requestChecks}
 
 -- a test before the rest: its number, or that of the rest
 after-check : (x : Bool) (why : Refusal) (d : State) (a : List ℕ) (r : Answer) (n : ℕ) → r .number ≡ n → cond x (refused why d a) r .number ≡ cond x (errnoOf why) n

@@ -7,10 +7,8 @@ use lib.ListN.{length}
 use Rattle.wire.specs.Signed.{signed}
 use Rattle.buffers.specs.declared.Time.{Time}
 use Rattle.arrival.specs.declared.Arrival.{Arrival}
-use Rattle.arrival.specs.Arrivals.{writtenBy}
 use Rattle.state.specs.declared.State.{State}
 use Rattle.state.specs.Answers.{Answer}
-use Rattle.state.specs.State.{frameSize}
 use Rattle.device.specs.declared.Taken.{Taken}
 use Rattle.device.specs.Opening.{openedOf}
 use Rattle.device.specs.Request.{requestAnswer}

@@ -17,7 +17,7 @@ use Rattle.device.specs.Film.{deviceVerdict}
 use Rattle.history.specs.Paper.{Paper, Event, blank, noted, wholes, dequeues, Calm, handedOver}
 use Rattle.history.specs.Paper.Event.{whole}
 use Rattle.history.specs.Claims.{_⇔_, AllHandedOver}
-use Rattle.claims.specs.Calls.{Call, Reply, Box, opened, timeOf, reply, next, after}
+use Rattle.claims.specs.Calls.{Call, Box, opened, timeOf, reply, next, after}
 use Rattle.claims.specs.Calls.Call.{request, arrival}
 use Rattle.claims.specs.Calls.Reply.{answered, taken}
 use Rattle.claims.specs.Words.{told, events}

@@ -1,7 +1,7 @@
 -- Demands 1 and 2, and what holds of the buffers and the counts after every list of calls.
 use mathlib.Core.Path.{_≡_}
 use mathlib.Core.Logic.{_≢_}
-use mathlib.Core.Bool.{Bool, true, false, cond, not, _&&_, _||_}
+use mathlib.Core.Bool.{Bool, true, false, not, _&&_, _||_}
 use Prim.Native.Nat.{ℕ, _+_, _*_, _≤_, _<_}
 use mathlib.Core.List.{List, [], _∷_}
 use lib.Dec.{eqb, leb, ltb}
@@ -22,7 +22,6 @@ use Rattle.arrival.specs.Arrivals.{runLimit}
 use Rattle.status.specs.Buffer.{flagsOf}
 use Rattle.status.specs.declared.Verdict.the-variants.{Running, Blank, Gaps, Complete}
 use Rattle.state.specs.declared.State.{State}
-use Rattle.state.specs.Answers.{Answer}
 use Rattle.device.specs.declared.Opened.{Opened}
 use Rattle.device.specs.declared.Taken.{Taken}
 use Rattle.device.specs.Opening.{longestMemory, openedOf}

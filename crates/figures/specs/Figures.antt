@@ -1,5 +1,5 @@
 -- The figures of the bench: one table, each row computed from the bench sheet by the definitions that the contracts cite.
-use Prim.Native.Nat.{ℕ, _/_, min}
+use Prim.Native.Nat.{ℕ}
 use mathlib.Core.List.{List, [], _∷_}
 use lib.IntN.{ℤ, pos, negℤ}
 use lib.ListN.{getD, replicate}
@@ -16,7 +16,6 @@ use Rattle.wire.specs.Words.{bytesOf}
 use Rattle.fields.specs.Copy.{keptOf}
 use Rattle.status.specs.Film.{verdictNumber}
 use Rattle.state.specs.declared.State.{State}
-use Rattle.state.specs.Answers.{Answer}
 use Rattle.device.specs.declared.Opened.{Opened}
 use Rattle.device.specs.Opening.{openedOf}
 use Rattle.device.specs.Request.{requestAnswer}

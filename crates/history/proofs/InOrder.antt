@@ -1,10 +1,9 @@
 -- A buffer that is handed in gets its arrival and comes back with it.
 use mathlib.Core.Path.{_≡_, refl, sym, ap, _∙_, subst}
 use mathlib.Core.Bool.{Bool, true, false, cond, _&&_, true≢false}
-use Prim.Native.Nat.{ℕ, _+_, _≤_, _<_}
-use native.Mathlib.Omega.{arith}
+use Prim.Native.Nat.{ℕ, _+_}
 use lib.Dec.{leb}
-use mathlib.Core.List.{List, [], _∷_, _++_, map, append-assoc, head-eq-of-cons-eq, tail-eq-of-cons-eq}
+use mathlib.Core.List.{List, [], _∷_, _++_, append-assoc}
 use lib.ListN.{length, take, drop}
 use Rattle.buffers.specs.declared.Time.{Time}
 use Rattle.buffers.specs.declared.Filled.{Filled}
@@ -17,11 +16,11 @@ use Rattle.arrival.specs.declared.Arrival.the-variants as arrivals
 use Rattle.history.specs.Calls.{Call, Answer, World, opened, arrives, sizeReply, answer, next, after}
 use Rattle.history.specs.Calls.Call.{request, enqueue, dequeue, start, stop, resize, arrival, other}
 use Rattle.history.specs.Calls.Answer.{replied, arrived}
-use Rattle.history.specs.Paper.{Frame, Pair, Paper, Event, blank, refusedReply, refusedArrival, grantIn, repliedTold, arrivedTold, told, frameOf, filled, step, noted, events, wholes, dequeues, Calm}
+use Rattle.history.specs.Paper.{Pair, Paper, Event, blank, refusedReply, refusedArrival, grantIn, told, frameOf, filled, step, noted, events, wholes, dequeues, Calm}
 use Rattle.history.specs.Paper.Event.{put, whole, damaged, handed, begun, ended, sized, idle}
-use Rattle.history.specs.Claims.{paperAfter, worldAfter, slotBytes, waitingBefore, filledBefore, upTo, handedIn, since, Accepted, Stores, Arrival, Returns}
+use Rattle.history.specs.Claims.{paperAfter, worldAfter, slotBytes, Stores, Arrival, Returns}
 use Rattle.history.proofs.Lists.{All, all-append}
-use Rattle.history.proofs.Sound.{Sound, Fits}
+use Rattle.history.proofs.Sound.{Fits}
 use Rattle.history.proofs.Tied.{Tied, Answers, Held, entry, placedAs, firstOf}
 use Rattle.history.proofs.Every.{Kept, fits-next, foretold-next, kept-next, kept-after, legal-events, kept}
 use Rattle.history.proofs.Machine.{leaves-append, noted-tells, Cut, cut}

@@ -1,22 +1,19 @@
 -- The counts add up, and the verdict is which when.
 use mathlib.Core.Path.{_≡_, refl, sym, ap, _∙_, subst}
-use mathlib.Core.Bool.{Bool, true, false, cond, true≢false, false≢true}
-use Prim.Native.Nat.{ℕ, _+_, _≤_, _<_}
+use mathlib.Core.Bool.{Bool, true, false, cond, true≢false}
+use Prim.Native.Nat.{ℕ, _<_}
 use native.Mathlib.Omega.{arith}
 use borrow.Author.Tests.{eqb-true, eqb-false}
 use lib.Dec.{eqb}
 use mathlib.Core.List.{List, []}
-use lib.ListN.{length}
 use Rattle.stream.specs.declared.Run.{Run}
-use Rattle.stream.specs.Stream.{streaming}
 use Rattle.status.specs.Film.{verdictAfter, verdictOf}
 use Rattle.status.specs.declared.Verdict.{Verdict}
 use Rattle.status.specs.declared.Verdict.the-variants.{Running, Blank, Gaps, Complete}
-use Rattle.history.specs.Calls.{Call, World, opened}
+use Rattle.history.specs.Calls.{World, opened}
 use Rattle.history.specs.Paper.{Paper, blank, events}
 use Rattle.history.specs.Claims.{_⇔_, paperAfter, worldAfter, AddsUp, handedAfter, AllHandedOver, Verdicts}
 use Rattle.history.proofs.Sound.{Sound, sound-blank}
-use Rattle.history.proofs.Tied.{Tied}
 use Rattle.history.proofs.Every.{Kept, kept, legal-events}
 use Rattle.history.proofs.Numbers.{Ordered, ordered-after, ordered-blank, all-handed}
 

@@ -1,20 +1,20 @@
 -- Every buffer is in exactly one place.
-use mathlib.Core.Path.{_≡_, refl, sym, ap, _∙_, subst}
+use mathlib.Core.Path.{_≡_, refl, ap, _∙_}
 use mathlib.Core.Bool.{Bool, true, false, cond}
-use Prim.Native.Nat.{ℕ, _+_, _*_, _≤_, _<_}
+use Prim.Native.Nat.{ℕ, _+_, _*_, _≤_}
 use native.Mathlib.Omega.{arith}
 use lib.Dec.{eqb}
-use mathlib.Core.List.{List, [], _∷_, _++_, map}
+use mathlib.Core.List.{List, [], _∷_, map}
 use Rattle.buffers.specs.declared.Filled.{Filled}
 use Rattle.buffers.specs.Search.{any}
 use Rattle.buffers.specs.Queues.{ofBuffer, isIncoming, isOutgoing}
 use Rattle.status.specs.Buffer.{flagsOf}
-use Rattle.history.specs.Calls.{Call, World}
+use Rattle.history.specs.Calls.{World}
 use Rattle.history.specs.Paper.{Pair, Paper, indexOf}
-use Rattle.history.specs.Claims.{paperAfter, worldAfter, times, timesIn, timesOut, OnePlace}
-use Rattle.history.proofs.Lists.{NoDup, nodup-append, times-append, times-once, times-past, any-times}
-use Rattle.history.proofs.Sound.{Sound, line}
-use Rattle.history.proofs.Tied.{Tied, entry}
+use Rattle.history.specs.Claims.{paperAfter, worldAfter, timesIn, timesOut, OnePlace}
+use Rattle.history.proofs.Lists.{nodup-append, times-append, times-once, times-past, any-times}
+use Rattle.history.proofs.Sound.{line}
+use Rattle.history.proofs.Tied.{entry}
 use Rattle.history.proofs.Every.{Kept, kept}
 
 -- an entry of buffer k is found where its index stands

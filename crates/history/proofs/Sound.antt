@@ -2,17 +2,17 @@
 -- and the counts of a run add up.
 use mathlib.Core.Path.{_≡_, refl, sym, ap, _∙_, subst}
 use mathlib.Core.Logic.{_≢_}
-use mathlib.Core.Bool.{Bool, true, false, cond, true≢false, false≢true}
-use Prim.Native.Nat.{ℕ, zero, suc, _+_, _≤_, _<_}
+use mathlib.Core.Bool.{Bool, true, false, true≢false, false≢true}
+use Prim.Native.Nat.{ℕ, _+_, _≤_, _<_}
 use native.Mathlib.Omega.{arith}
 use mathlib.Core.List.{List, [], _∷_, _++_, map, append-assoc}
 use lib.ListN.{length, length-append, length-map}
 use Rattle.buffers.specs.declared.Time.{Time}
 use Rattle.stream.specs.declared.Run.{Run}
 use Rattle.arrival.specs.Arrivals.{runLimit}
-use Rattle.history.specs.Paper.{Frame, Pair, Paper, Event, indexOf, blank, frameOf, rest, filled, drops, count, step}
+use Rattle.history.specs.Paper.{Frame, Pair, Paper, Event, indexOf, blank, frameOf, filled, step}
 use Rattle.history.specs.Paper.Event.{put, whole, damaged, handed, begun, ended, sized, idle}
-use Rattle.history.proofs.Lists.{All, NoDup, all-snoc, all-append, map-snoc, nodup-snoc, pigeonhole}
+use Rattle.history.proofs.Lists.{All, NoDup, all-snoc, map-snoc, nodup-snoc, pigeonhole}
 
 -- the buffers in the queues, in the order in which they will be handed over
 abbrev pub lineOf : List Pair → List ℕ → List ℕ

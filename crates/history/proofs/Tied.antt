@@ -2,7 +2,7 @@
 use mathlib.Core.Path.{_≡_, refl, sym, ap, _∙_, subst}
 use mathlib.Core.Logic.{_≢_}
 use mathlib.Core.Bool.{Bool, true, false, cond, not, _&&_, _||_, true≢false, false≢true}
-use Prim.Native.Nat.{ℕ, zero, suc, _+_, _*_, _%_, _^_, _≤_, _<_}
+use Prim.Native.Nat.{ℕ, _+_, _*_, _≤_, _<_}
 use native.Mathlib.Omega.{arith}
 use native.Mathlib.Decide.{decLt}
 use native.Mathlib.Nat.{add-zero}
@@ -19,7 +19,7 @@ use Rattle.buffers.specs.declared.Filled.{Filled}
 use Rattle.buffers.specs.declared.Queues.{Queues}
 use Rattle.buffers.specs.Search.{any}
 use Rattle.buffers.specs.Slot.{slotSize, slotOffset}
-use Rattle.buffers.specs.Queues.{waiting, holding, noFrame, ofBuffer, isIncoming, isOutgoing, noBuffers, emptyQueues, pushed, oldestIncoming, oldestOutgoing, filledOldest, popped}
+use Rattle.buffers.specs.Queues.{noFrame, ofBuffer, isIncoming, isOutgoing, noBuffers, pushed, oldestIncoming, oldestOutgoing, filledOldest, popped}
 use Rattle.buffers.proofs.Slots.{slot-least, slots-apart}
 use Rattle.buffers.proofs.Views.{Holds, queued-is, done-is, holds-none, holds-empty, holds-pushed, oldest-incoming, oldest-outgoing, holds-filled, holds-popped}
 use Rattle.stream.specs.declared.Reply.{Reply}
@@ -27,19 +27,19 @@ use Rattle.stream.specs.declared.Reply.the-variants.{Done, Granted, Returned, R
 use Rattle.stream.specs.declared.Run.{Run}
 use Rattle.stream.specs.declared.Step.{Step}
 use Rattle.stream.specs.declared.Stream.{Stream}
-use Rattle.stream.specs.Stream.{oneMore, streaming, freshRun, freshStream, withQueues, started, stoppedRun, stopped, handedRun}
+use Rattle.stream.specs.Stream.{oneMore, streaming, freshStream, withQueues, started, stoppedRun, stopped, handedRun}
 use Rattle.stream.specs.Calls.{answers, refuses, grantOf, requestOf, enqueueOf, dequeueOf, startOf, stopOf}
 use Rattle.stream.proofs.Grants.{grant-few, grant-fits}
 use Rattle.arrival.specs.declared.Arrival.{Arrival}
 use Rattle.arrival.specs.declared.Arrival.the-variants as arrivals
 use Rattle.arrival.specs.declared.Arrived.{Arrived}
 use Rattle.arrival.specs.Arrivals.{runLimit, withRun, countedRun, damagedRun, droppedRun, answers as arrives-as, placedOf, acceptedOf, arrivalOf, writtenBy}
-use Rattle.history.specs.Calls.{Call, Answer, World, opened, lent, arrives, sizeReply, answer, withStream, next}
+use Rattle.history.specs.Calls.{Call, Answer, World, opened, answer, withStream, next}
 use Rattle.history.specs.Calls.Call.{request, enqueue, dequeue, start, stop, resize, arrival, other}
 use Rattle.history.specs.Calls.Answer.{replied, arrived}
-use Rattle.history.specs.Paper.{Frame, Pair, Paper, Event, indexOf, blank, refusedReply, refusedArrival, grantIn, arrivedWhole, told, frameOf, rest, filled, drops, count, step}
+use Rattle.history.specs.Paper.{Pair, Paper, Event, indexOf, blank, arrivedWhole, told, frameOf, step}
 use Rattle.history.specs.Paper.Event.{put, whole, damaged, handed, begun, ended, sized, idle}
-use Rattle.history.proofs.Lists.{All, NoDup, all-snoc, all-append, all-join, all-map, all-both, all-of-map, all-to-map, map-snoc, nodup-before, none-passes}
+use Rattle.history.proofs.Lists.{All, all-snoc, all-append, all-join, all-map, all-both, all-of-map, all-to-map, map-snoc, nodup-before, none-passes}
 use Rattle.history.proofs.Sound.{Sound, Fits, lineOf, line, paper, room, room-more}
 
 -- a pair of the paper, as the stream keeps it

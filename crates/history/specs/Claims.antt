@@ -14,10 +14,10 @@ use Rattle.arrival.specs.declared.Arrival.the-variants.{Stored}
 use Rattle.status.specs.Buffer.{flagsOf}
 use Rattle.status.specs.Film.{verdictOf}
 use Rattle.status.specs.declared.Verdict.the-variants.{Running, Blank, Gaps, Complete}
-use Rattle.history.specs.Calls.{Call, Answer, World, opened, answer, next, after}
+use Rattle.history.specs.Calls.{Call, World, opened, answer, next, after}
 use Rattle.history.specs.Calls.Call.{enqueue, dequeue, arrival}
 use Rattle.history.specs.Calls.Answer.{replied, arrived}
-use Rattle.history.specs.Paper.{Paper, Event, blank, indexOf, told, step, noted, events, wholes, dequeues, Calm, handedOver, numbersBelow}
+use Rattle.history.specs.Paper.{Paper, Event, blank, indexOf, told, noted, events, wholes, dequeues, Calm, handedOver, numbersBelow}
 use Rattle.history.specs.Paper.Event.{whole}
 
 -- the paper after a list of calls from an opening

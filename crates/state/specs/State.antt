@@ -1,7 +1,7 @@
 -- What a device keeps: closed, after a good opening, and with one part changed.
 use Prim.Native.Nat.{ℕ}
 use mathlib.Core.List.{List}
-use lib.IntN.{ℤ, pos}
+use lib.IntN.{pos}
 use lib.ListN.{replicate}
 use Rattle.geometry.specs.Geometry.{lineAlignment, cropDefault}
 use Rattle.geometry.specs.declared.Rect.{Rect}
