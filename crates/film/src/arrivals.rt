@@ -1,10 +1,11 @@
-// Frames that arrive.
+// Frames that arrive, what can be said of the film, and the planes of a frame.
 use crate::pictures;
 use crate::say;
 use arrival::Arrival;
 use buffers::Time;
 use device::Taken;
 use state::State;
+use status::Verdict;
 
 fn told(a: Arrival) {
     match a {
@@ -20,15 +21,17 @@ fn told(a: Arrival) {
 }
 
 fn said(bytes: usize, time: Time) {
-    say::long(b"arrival of ", bytes as u64);
-    say::time(b" bytes at ", time);
+    say::text(b"arrival of ");
+    say::long(bytes as u64);
+    say::text(b" bytes at ");
+    say::time(time);
 }
 
 // Says what an arrival is answered; the device goes on as it leaves it.
 fn after(r: Taken) -> State {
     let a = r.arrival;
     told(a);
-    say::text(b"\n");
+    say::letter(b'\n');
     r.state
 }
 
@@ -48,24 +51,26 @@ pub(crate) fn arrive(
     after(device::arrive(sheet, s, memory, frame, time))
 }
 
-// A whole picture of the format that the stories are in.
-pub(crate) fn whole(
-    sheet: &[u8],
-    s: State,
-    memory: &mut [u8],
-    space: &mut [u8],
-    picture: u32,
-) -> State {
-    arrive(sheet, s, memory, space, picture, 143360)
+pub(crate) fn verdict(s: State) {
+    let v = device::verdict_of(s);
+    match v {
+        Verdict::Running => say::text(b"verdict: RUNNING\n"),
+        Verdict::Blank => say::text(b"verdict: BLANK\n"),
+        Verdict::Gaps => say::text(b"verdict: GAPS\n"),
+        Verdict::Complete => say::text(b"verdict: COMPLETE\n"),
+    }
 }
 
-// One with its last byte lost.
-pub(crate) fn short(
-    sheet: &[u8],
-    s: State,
-    memory: &mut [u8],
-    space: &mut [u8],
-    picture: u32,
-) -> State {
-    arrive(sheet, s, memory, space, picture, 143359)
+// Plane k of a frame whose words tell their own places: so the plane's first word tells where it starts.
+pub(crate) fn plane<'a>(sheet: &'a [u8], s: State, frame: &'a [u8], k: u32) {
+    let mut number: u32 = 0;
+    let part = device::plane(sheet, s, frame, k, &mut number);
+    say::number(b"plane ", k);
+    say::number(b": ", number);
+    if number == 0 {
+        say::number(b", start ", wire::word_at(part, 0));
+        say::text(b" length ");
+        say::long(part.len() as u64);
+    }
+    say::letter(b'\n');
 }

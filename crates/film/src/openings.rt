@@ -1,80 +1,48 @@
-// Openings that are taken and refused.
-use crate::arrivals;
-use crate::buffer_calls;
-use crate::devices;
-use crate::format_calls;
+// Openings, by their letters: of the bench sheet, of a damaged one, of one that is cut short.
 use crate::say;
+use bench::Bytes;
 use state::Device;
-use state::State;
 
-// A request, an arrival and the verdict, of a device that its opening closed.
-fn asked(sheet: &[u8], s: State, memory: &mut [u8], space: &mut [u8]) {
-    let a = format_calls::querycap(sheet, s);
-    let b = buffer_calls::streamoff(sheet, a);
-    let c = arrivals::whole(sheet, b, memory, space, 1);
-    buffer_calls::verdict(c);
+// The least width of the damaged sheet is 161, and a least width is even.
+fn sheet(c: u8) -> Bytes {
+    let mut bytes = bench::sheet();
+    if c == b'D' {
+        wire::put_word(&mut bytes, 188, 161);
+    }
+    bytes
 }
 
-fn closed(d: Device, memory: &mut [u8], space: &mut [u8]) {
-    let sheet = d.sheet;
-    let s = d.state;
-    asked(&sheet, s, memory, space);
+fn name(c: u8) {
+    match c {
+        b'D' => say::text(b"open, damaged sheet"),
+        b'U' => say::text(b"open, cut sheet"),
+        _ => say::text(b"open, bench sheet"),
+    }
 }
 
-fn good(length: usize) {
-    let d = devices::bench(length);
-    let s = d.state;
-    buffer_calls::verdict(s);
+// The cut sheet lacks its last byte.
+fn length(c: u8) -> usize {
+    if c == b'U' { 323 } else { 324 }
 }
 
-// The least width, 160, becomes 161, and a least width is even.
-fn damaged(memory: &mut [u8], space: &mut [u8]) {
-    let mut sheet = bench::sheet();
-    wire::put_word(&mut sheet, 188, 161);
-    let d = devices::opened(b"open, damaged sheet", &sheet, memory.len() as u64);
-    closed(d, memory, space);
+// The length of the picture memory; with no number it is that of the bench.
+fn memory_length(n: u32) -> u64 {
+    if n == 0 {
+        bench::memory_length() as u64
+    } else {
+        n as u64
+    }
 }
 
-// The sheet without its last byte.
-fn cut(length: usize) {
-    let sheet = bench::sheet();
-    let d = devices::opened(
-        b"open, cut sheet",
-        wire::part(&sheet, 0, 323),
-        length as u64,
-    );
-    let s = d.state;
-    buffer_calls::verdict(s);
-}
-
-// The longest memory that is taken: what is lent at the arrival is shorter.
-fn longest(memory: &mut [u8], space: &mut [u8]) {
-    let d = devices::bench(1073741824);
-    let sheet = d.sheet;
-    let s = d.state;
-    let a = arrivals::whole(&sheet, s, memory, space, 1);
-    buffer_calls::verdict(a);
-}
-
-// One byte more.
-fn too_long(memory: &mut [u8], space: &mut [u8]) {
-    let d = devices::bench(1073741825);
-    closed(d, memory, space);
-}
-
-fn sheets(memory: &mut [u8], space: &mut [u8]) {
-    good(memory.len());
-    damaged(memory, space);
-    cut(memory.len());
-}
-
-fn memories(memory: &mut [u8], space: &mut [u8]) {
-    longest(memory, space);
-    too_long(memory, space);
-}
-
-pub(crate) fn all(memory: &mut [u8], space: &mut [u8]) {
-    say::text(b"1. Opening\n");
-    sheets(memory, space);
-    memories(memory, space);
+// A device with a picture memory of this length.
+pub(crate) fn opened(c: u8, n: u32) -> Device {
+    let bytes = sheet(c);
+    let memory = memory_length(n);
+    let r = device::open_device(wire::part(&bytes, 0, length(c)), memory);
+    name(c);
+    say::text(b", memory of ");
+    say::long(memory);
+    say::number(b" bytes: ", r.number);
+    say::letter(b'\n');
+    r.device
 }

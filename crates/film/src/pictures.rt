@@ -2,7 +2,7 @@
 // against the time that the device tells of it.
 use buffers::Time;
 
-// When a picture was taken. The first is at 1.000000, the next at 2.040000: microseconds that are not all zero can get lost.
+// When a picture was taken: the first at 1.000000, the next at 2.040000, so that it shows where microseconds get lost.
 pub(crate) fn time_of(picture: u32) -> Time {
     let second = picture % 1000;
     Time {
@@ -11,7 +11,7 @@ pub(crate) fn time_of(picture: u32) -> Time {
     }
 }
 
-// No two places a line or a slot apart have the same bytes around them.
+// Another picture, or the same one a line further on, has other bytes.
 fn byte(picture: usize, i: usize) -> u8 {
     ((picture % 251 * 31 + i % 251 + i / 251 % 241 * 7) % 251) as u8
 }

@@ -5,36 +5,35 @@ pub(crate) fn text(t: &[u8]) {
     io::write_all(libc::STDOUT_FILENO, t);
 }
 
-// A text, and a number after it.
-pub(crate) fn long(t: &[u8], n: u64) {
-    text(t);
+// One byte, as it stands.
+pub(crate) fn letter(c: u8) {
+    let t = [c];
+    text(&t);
+}
+
+pub(crate) fn long(n: u64) {
     io::print_decimal(libc::STDOUT_FILENO, n);
 }
 
+// A text, and a number after it.
 pub(crate) fn number(t: &[u8], n: u32) {
-    long(t, n as u64);
+    text(t);
+    long(n as u64);
 }
 
-pub(crate) fn hex(t: &[u8], n: u32) {
-    text(t);
+pub(crate) fn hex(n: u32) {
     text(b"0x");
     io::print_hex(libc::STDOUT_FILENO, n as u64, 8);
 }
 
 // The signed number that a word's 32 bits stand for.
-pub(crate) fn signed(t: &[u8], w: u32) {
-    text(t);
+pub(crate) fn signed(w: u32) {
     if w < 0x8000_0000 {
-        number(b"", w);
+        long(w as u64);
     } else {
-        long(b"-", (0xffff_ffff - w) as u64 + 1);
+        letter(b'-');
+        long((0xffff_ffff - w) as u64 + 1);
     }
-}
-
-pub(crate) fn title(t: &[u8]) {
-    text(b"\n");
-    text(t);
-    text(b"\n");
 }
 
 // How many bytes stand before the first zero.
@@ -49,9 +48,8 @@ fn letters(field: &[u8]) -> usize {
     i
 }
 
-// A text, and after it a field that zeros fill up.
-pub(crate) fn name(t: &[u8], field: &[u8]) {
-    text(t);
+// A field that zeros fill up.
+pub(crate) fn name(field: &[u8]) {
     text(wire::part(field, 0, letters(field)));
 }
 
@@ -59,14 +57,14 @@ pub(crate) fn name(t: &[u8], field: &[u8]) {
 fn six_digits(n: u32) {
     let mut place: u32 = 100000;
     while 0 < place {
-        number(b"", n / place % 10);
+        long((n / place % 10) as u64);
         place /= 10;
     }
 }
 
 // Seconds and microseconds, neither of them below zero.
-pub(crate) fn time(t: &[u8], at: Time) {
-    number(t, wire::as_bits(at.seconds));
-    text(b".");
+pub(crate) fn time(at: Time) {
+    long(wire::as_bits(at.seconds) as u64);
+    letter(b'.');
     six_digits(wire::as_bits(at.microseconds));
 }

@@ -1,4 +1,4 @@
--- The space keeps its length; the places that are left are the measure. Assumes nothing.
+-- The space keeps its length; the place goes up by four and ends below 143,364, so what is left to there is the measure. Assumes nothing.
 use mathlib.Core.Path.{_≡_}
 use Prim.Native.Nat.{_≤_, _-_}
 use lib.ListN.{length}

@@ -5,22 +5,22 @@ use Rattle.film.proofs.say.six_digits.Statement.{statement}
 use Rattle.film.proofs.say.six_digits.Tie as tie
 
 abbrev Inv-loop : tie.InvT-loop
-Inv-loop n place₀ t3 place = place ≤ 100000
+Inv-loop n place₀ place = place ≤ 100000
 
 abbrev μ-loop : tie.MeasureT-loop
-μ-loop n place₀ t3 place = place
+μ-loop n place₀ place = place
 
 loop-holds : tie.Need-loop-holds Inv-loop μ-loop
 loop-holds c = search needs
 
-slice-aggregate-number : tie.Need-slice-aggregate-number Inv-loop μ-loop
-slice-aggregate-number c = search needs
+div-long : tie.Need-div-long Inv-loop μ-loop
+div-long c = search needs
 
-div-number : tie.Need-div-number Inv-loop μ-loop
-div-number c = search needs
+cast-long : tie.Need-cast-long Inv-loop μ-loop
+cast-long c = search needs
 
-number-requires : tie.Need-number-requires Inv-loop μ-loop
-number-requires c κs = search needs
+long-requires : tie.Need-long-requires Inv-loop μ-loop
+long-requires c κs = search needs
 
 loop-less : tie.Need-loop-less Inv-loop μ-loop
 loop-less c = search needs
@@ -38,9 +38,9 @@ six-digits-spec =
     Inv-loop
     μ-loop
     loop-holds
-    slice-aggregate-number
-    div-number
-    number-requires
+    div-long
+    cast-long
+    long-requires
     loop-less
     loop-again
     returns)
