@@ -46,9 +46,6 @@ module _ (s : Stream) (lent n : ℕ) (w : Bool) (size : ℕ) (t : Time) where
   unfolding arrivalOf
   stream-checks = go (not (eqb lent (s .length))) (streaming s) (leb runLimit (s .run .accepted))
     where
-      taken : Arrived
-      taken = acceptedOf (withRun s (countedRun (s .run))) (s .run .accepted) n w size t
-
       zero : arrivalNumber (acceptedOf (withRun s (countedRun (s .run))) (s .run .accepted) n w size t .arrival) ≡ 0
       zero = accepted-number (withRun s (countedRun (s .run))) (s .run .accepted) n w size t
 
@@ -76,9 +73,6 @@ module _ (s : List ℕ) (d : State) (m f : List ℕ) (t : Time) where
   unfolding takenOf
   device-checks = go (eqb (d .ready) 0)
     where
-      fl : Bool
-      fl = wholePicture (length f) (frameSize s d) t
-
       r : Bool → Taken
       r x = cond x (record { arrival = arrivals.Refused Closed; state = d })
           (record { arrival = pictureArrives s d (length m) (length f) t .arrival; state = withStream d (pictureArrives s d (length m) (length f) t .stream) })

@@ -74,9 +74,6 @@ try-stays s d w a e =
     (ap (λ (call : Call). callAnswer call s d a .state) e ∙ stays (not (eqb (wordAt a 0) 1)) WrongType d a (done d (sets a 0 (formatReply 1 s (negotiated s (askedFormat a))))) refl)))
 
 module _ (s : List ℕ) (d : State) (a : List ℕ) where
-  f : Format
-  f = negotiated s (askedFormat a)
-
   -- an accepted S_FMT passed the test of its type, sets what was negotiated and answers it
   set-accepted : sFmtOf s d a .number ≡ 0
       → (not (eqb (wordAt a 0) 1) ≡ false) × (sFmtOf s d a ≡ done (withFormat d (negotiated s (askedFormat a))) (sets a 0 (formatReply 1 s (negotiated s (askedFormat a)))))
@@ -105,9 +102,6 @@ pub demand-2 : Demand2
 demand-2 s d t u g a b et eu eg =
     (try-stays s d t a et, λ h. tried h, λ h k. got h k)
   where
-    n : Format
-    n = negotiated s (askedFormat a)
-
     set-is : requestAnswer s d u a .number ≡ 0 → requestAnswer s d u a ≡ sFmtOf s d a
     set-is h = reached s d u a h .is ∙ ap (λ (call : Call). callAnswer call s d a) eu
 

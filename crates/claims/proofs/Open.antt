@@ -69,9 +69,6 @@ timed-of : (x y : ℕ) → Timed (timeOf x y)
 timed-of x y = (signed-fits (x % 2 ^ 32) (omega arith), signed-fits (y % 2 ^ 32) (omega arith))
 
 module _ (b : Box) (p : Paper) (safe : Safe b p) (f : List ℕ) (x y : ℕ) (other : List ℕ) where
-  size : ℕ
-  size = frameSize (b .sheet) (b .state)
-
   -- an open device hands the picture to its stream
   open-taken : (l : ℕ) → takenOf (b .sheet) (b .state) l (length f) (timeOf x y)
       ≡ record {
@@ -87,13 +84,7 @@ module _ (b : Box) (p : Paper) (safe : Safe b p) (f : List ℕ) (x y : ℕ) (oth
   unfolding takenOf
   open-taken l = rw (safe .ready)
 
-  -- what the stream answers and leaves
-  picture : Bool → Arrived
-  picture v = pictureArrives (b .sheet) (b .state) (length (cond v (b .memory) other)) (length f) (timeOf x y)
-
-  device : Bool → Taken
-  device v = takenOf (b .sheet) (b .state) (length (cond v (b .memory) other)) (length f) (timeOf x y)
-
+  -- the stream of the device after it, its image size and memory
   same-view : (v : Bool)
       → view (record {
         sheet = b .sheet;

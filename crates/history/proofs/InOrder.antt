@@ -171,9 +171,6 @@ module _ (size : ℕ) (m : List ℕ) (before : List Call) (k : ℕ) where
   paper-in h =
       noted-tells answer next told before (enqueue k ∷ []) (opened size m) (blank size) ∙ ap (λ (a : Answer). step (paperAfter size m before) (told (paperAfter size m before) (enqueue k) a)) h
 
-  world-in : worldAfter size m (before ++ enqueue k ∷ []) ≡ next (worldAfter size m before) (enqueue k)
-  world-in = leaves-append answer next told before (enqueue k ∷ []) (opened size m)
-
   kept-in : answer (worldAfter size m before) (enqueue k) ≡ replied Done → Kept (worldAfter size m (before ++ enqueue k ∷ [])) (step (paperAfter size m before) (put k))
   kept-in h = subst (Kept (worldAfter size m (before ++ enqueue k ∷ []))) (paper-in h) (kept size m (before ++ enqueue k ∷ []))
 
