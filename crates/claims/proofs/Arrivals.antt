@@ -4,10 +4,9 @@ use mathlib.Core.Logic.{_≢_}
 use mathlib.Core.Bool.{Bool, true, false, cond, not, _&&_}
 use Prim.Native.Nat.{ℕ}
 use lib.Dec.{eqb, leb, ltb}
-use mathlib.Core.List.{List}
+use mathlib.Core.List.{List, [], _∷_}
 use lib.ListN.{length}
-use Rattle.ioctl.specs.declared.refusals.Refusal.the-variants.{MemoryLength, Closed, BadSheet, MemoryTooLong, RunFull}
-use Rattle.planes.specs.Planes.{planeNumber}
+use Rattle.ioctl.specs.declared.refusals.Refusal.the-variants.{MemoryLength, Closed, BadSheet, MemoryTooLong, NoSuchPlane, RunFull}
 use Rattle.sheet.specs.Rules.{goodSheet}
 use Rattle.buffers.specs.declared.Time.{Time}
 use Rattle.stream.specs.declared.Stream.{Stream}
@@ -20,11 +19,14 @@ use Rattle.arrival.specs.Picture.{wholePicture}
 use Rattle.state.specs.declared.State.{State}
 use Rattle.fields.specs.Copy.{keptOf}
 use Rattle.state.specs.State.{closedState, openingState, frameSize, withStream}
+use Rattle.geometry.specs.Geometry.{lineAlignment}
+use Rattle.planes.specs.declared.Place.{Place}
+use Rattle.planes.specs.Planes.{planeRefused, planeStart, planeLength, noPlace, placeOf}
 use Rattle.device.specs.declared.Opened.{Opened}
 use Rattle.device.specs.declared.Taken.{Taken}
 use Rattle.device.specs.Opening.{longestMemory, closedBy, openedOf}
-use Rattle.device.specs.Film.{pictureArrives, takenOf, takenMemory, devicePlaneNumber}
-use Rattle.claims.specs.Refusals.{firstNumber}
+use Rattle.device.specs.Film.{pictureArrives, takenOf, takenMemory, devicePlace}
+use Rattle.claims.specs.Refusals.{check, firstNumber}
 use Rattle.claims.specs.Demands.{known, arrivalNumber, arrivalChecks, ArrivalAnswered, OpeningAnswered, PlaneAnswered}
 use Rattle.claims.proofs.Honest.{first-known}
 use Rattle.claims.proofs.Open.{long-written}
@@ -108,5 +110,13 @@ opening-answered s n = go (goodSheet s) (ltb longestMemory n)
     go true false = (refl, λ h. absurd (h refl))
 
 pub plane-answered : PlaneAnswered
-unfolding devicePlaneNumber planeNumber
-plane-answered s d f k = refl
+unfolding devicePlace placeOf
+plane-answered s d f k = go (eqb (d .ready) 0) (planeRefused (d .format) (lineAlignment s) (length f) k)
+  where
+    place : Place
+    place = record { number = 0; start = planeStart (d .format) (lineAlignment s) k; length = planeLength (d .format) (lineAlignment s) k }
+
+    go : (x y : Bool) → cond x (noPlace Closed) (cond y (noPlace NoSuchPlane) place) .number ≡ firstNumber (check x Closed ∷ check y NoSuchPlane ∷ [])
+    go true y = refl
+    go false true = refl
+    go false false = refl

@@ -26,7 +26,7 @@ use Rattle.device.specs.declared.Opened.{Opened}
 use Rattle.device.specs.declared.Taken.{Taken}
 use Rattle.device.specs.Opening.{longestMemory, openedOf}
 use Rattle.device.specs.Request.{requestAnswer}
-use Rattle.device.specs.Film.{takenOf, takenMemory, deviceVerdict, devicePlaneNumber}
+use Rattle.device.specs.Film.{takenOf, takenMemory, deviceVerdict, devicePlace}
 use Rattle.history.specs.Claims.{_⇔_, timesIn, timesOut, AllHandedOver}
 use Rattle.claims.specs.Calls.{Call}
 use Rattle.claims.specs.Claims.{paperAfter, handedAfter, boxAfter}
@@ -78,7 +78,7 @@ OpeningAnswered = (s : List ℕ) (n : ℕ)
 -- a plane of any frame: 22 exactly for a closed device, a frame of another size, or a plane that the format does not have
 abbrev pub PlaneAnswered : Type 0
 PlaneAnswered = (s : List ℕ) (d : State) (f : List ℕ) (k : ℕ)
-    → devicePlaneNumber s d f k ≡ firstNumber (check (eqb (d .ready) 0) Closed ∷ check (planeRefused (d .format) (lineAlignment s) f k) NoSuchPlane ∷ [])
+    → devicePlace s d (length f) k .number ≡ firstNumber (check (eqb (d .ready) 0) Closed ∷ check (planeRefused (d .format) (lineAlignment s) (length f) k) NoSuchPlane ∷ [])
 
 -- DEMAND 1
 abbrev pub Demand1 : Type 0

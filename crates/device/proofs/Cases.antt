@@ -1,7 +1,7 @@
 -- What the definitions of specs/ say in each case.
 use Prim.Native.Nat.{ℕ, _<_, _≤_}
 use mathlib.Core.Bool.{Bool, true, false, not}
-use mathlib.Core.List.{List, []}
+use mathlib.Core.List.{List}
 use mathlib.Core.Path.{_≡_}
 use lib.ListN.{length}
 use borrow.Author.Tests.{eq-eqb, ne-eqb, lt-ltb, le-ltb}
@@ -13,7 +13,8 @@ use Rattle.buffers.specs.declared.Time.{Time}
 use Rattle.geometry.specs.Geometry.{lineAlignment}
 use Rattle.fields.specs.Copy.{keptOf}
 use Rattle.sheet.specs.Rules.{goodSheet}
-use Rattle.planes.specs.Planes.{planeOf, planeNumber}
+use Rattle.planes.specs.declared.Place.{Place}
+use Rattle.planes.specs.Planes.{placeOf}
 use Rattle.arrival.specs.declared.Arrival.the-variants.{Refused}
 use Rattle.arrival.specs.declared.Arrived.{Arrived}
 use Rattle.arrival.specs.Arrivals.{arrivalOf, writtenBy}
@@ -21,7 +22,7 @@ use Rattle.arrival.specs.Picture.{wholePicture}
 use Rattle.state.specs.declared.State.{State}
 use Rattle.state.specs.State.{frameSize, withStream, openingState}
 use Rattle.state.specs.Answers.{Answer, refusedWith}
-use Rattle.device.specs.Film.{takenOf, takenMemory, devicePlane, devicePlaneNumber}
+use Rattle.device.specs.Film.{takenOf, takenMemory, devicePlace}
 use Rattle.device.specs.Opening.{closedBy, openedOf, longestMemory}
 use Rattle.device.specs.Request.{callAnswer, requestAnswer}
 
@@ -55,14 +56,9 @@ module _ (s : List ℕ) (d : State) (h : d .ready ≡ 0) where
   memory-closed m f t = simp (eq-eqb (d .ready) 0 h)
 
   -- has no planes
-  pub plane-closed : (f : List ℕ) (k : ℕ) → [] ≡ devicePlane s d f k
-  unfolding devicePlane
-  plane-closed f k = simp (eq-eqb (d .ready) 0 h)
-
-  -- says so in number
-  pub number-closed : (f : List ℕ) (k : ℕ) → errnoOf Closed ≡ devicePlaneNumber s d f k
-  unfolding devicePlaneNumber
-  number-closed f k = simp (eq-eqb (d .ready) 0 h)
+  pub plane-closed : (n k : ℕ) {e : ℕ} → e ≡ errnoOf Closed → record { number = e; start = 0; length = 0 } ≡ devicePlace s d n k
+  unfolding devicePlace
+  plane-closed n k q = rw (eq-eqb (d .ready) 0 h, q)
 
 -- an open device
 module _ (s : List ℕ) (d : State) (h : d .ready ≡ 0 → ⊥) where
@@ -78,15 +74,10 @@ module _ (s : List ℕ) (d : State) (h : d .ready ≡ 0 → ⊥) where
   unfolding takenOf takenMemory
   memory-open m f t e g q = rw (ne-eqb (d .ready) 0 h, q, g, e)
 
-  -- has the planes of its format; a, p and n are what the code was told
-  pub plane-open : (f : List ℕ) (k : ℕ) {a : ℕ} {p : List ℕ} → a ≡ lineAlignment s → p ≡ planeOf (d .format) a f k → p ≡ devicePlane s d f k
-  unfolding devicePlane
-  plane-open f k e q = rw (ne-eqb (d .ready) 0 h, q, e)
-
-  -- and their numbers
-  pub number-open : (f : List ℕ) (k : ℕ) {a n : ℕ} → a ≡ lineAlignment s → n ≡ planeNumber (d .format) a f k → n ≡ devicePlaneNumber s d f k
-  unfolding devicePlaneNumber
-  number-open f k e q = rw (ne-eqb (d .ready) 0 h, q, e)
+  -- has the planes of its format; a and p are what the code was told
+  pub plane-open : (n k : ℕ) {a : ℕ} {p : Place} → a ≡ lineAlignment s → p ≡ placeOf (d .format) a n k → p ≡ devicePlace s d n k
+  unfolding devicePlace
+  plane-open n k e q = rw (ne-eqb (d .ready) 0 h, q, e)
 
 -- a request; n is the number that the code gives back
 module _ (s : List ℕ) (d : State) (w : ℕ) (a : List ℕ) where

@@ -1,14 +1,14 @@
 -- Frame arrivals, the verdict, and planes. A closed device refuses the first and the last, and its film is blank.
 use Prim.Native.Nat.{ℕ}
 use mathlib.Core.Bool.{cond}
-use mathlib.Core.List.{List, []}
+use mathlib.Core.List.{List}
 use lib.Dec.{eqb}
 use lib.ListN.{length}
-use Rattle.ioctl.specs.Refusal.{errnoOf}
 use Rattle.ioctl.specs.declared.refusals.Refusal.the-variants.{Closed}
 use Rattle.buffers.specs.declared.Time.{Time}
 use Rattle.geometry.specs.Geometry.{lineAlignment}
-use Rattle.planes.specs.Planes.{planeOf, planeNumber}
+use Rattle.planes.specs.declared.Place.{Place}
+use Rattle.planes.specs.Planes.{noPlace, placeOf, partAt}
 use Rattle.arrival.specs.declared.Arrival.the-variants.{Refused}
 use Rattle.arrival.specs.declared.Arrived.{Arrived}
 use Rattle.arrival.specs.Arrivals.{arrivalOf, writtenBy}
@@ -38,10 +38,10 @@ takenMemory s d m f t = writtenBy (takenOf s d (length m) (length f) t .arrival)
 unfoldable pub deviceVerdict : State → Verdict
 deviceVerdict d = cond (eqb (d .ready) 0) Blank (verdictOf (d .stream))
 
--- the part of a frame that is its plane k
-unfoldable pub devicePlane : List ℕ → State → List ℕ → ℕ → List ℕ
-devicePlane s d f k = cond (eqb (d .ready) 0) [] (planeOf (d .format) (lineAlignment s) f k)
+-- where plane k of a frame of n bytes lies
+unfoldable pub devicePlace : List ℕ → State → ℕ → ℕ → Place
+devicePlace s d n k = cond (eqb (d .ready) 0) (noPlace Closed) (placeOf (d .format) (lineAlignment s) n k)
 
--- 0, or the refusal's number
-unfoldable pub devicePlaneNumber : List ℕ → State → List ℕ → ℕ → ℕ
-devicePlaneNumber s d f k = cond (eqb (d .ready) 0) (errnoOf Closed) (planeNumber (d .format) (lineAlignment s) f k)
+-- the part of a frame that is its plane k
+abbrev pub devicePlane : List ℕ → State → List ℕ → ℕ → List ℕ
+devicePlane s d f k = partAt (devicePlace s d (length f) k) f

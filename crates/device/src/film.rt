@@ -1,11 +1,12 @@
 // Frame arrivals, the verdict, and planes.
 ghost use mathlib.Core.Path.{_≡_};
 ghost use lib.ListN.{length};
-ghost use Rattle.device.specs.Film.{takenOf, takenMemory, deviceVerdict, devicePlane, devicePlaneNumber};
+ghost use Rattle.device.specs.Film.{takenOf, takenMemory, deviceVerdict, devicePlace, devicePlane};
 use crate::Taken;
 use arrival::Arrival;
 use buffers::Time;
 use ioctl::Refusal;
+use planes::Place;
 use state::State;
 use status::Verdict;
 
@@ -42,15 +43,28 @@ pub fn verdict_of(s: State) -> Verdict
     status::film_verdict(now)
 }
 
+// Where plane k of a frame of so many bytes lies, by the present format; or no bytes, and 22.
+pub fn plane_place(sheet: &[u8], s: State, bytes: usize, k: u32) -> Place
+    ensures { λ r. ⌜ r ≡ devicePlace (now (sheet .entry)) s bytes k ⌝ }
+{
+    if s.ready == 0 {
+        let number = ioctl::errno(Refusal::Closed);
+        return Place {
+            number,
+            start: 0,
+            length: 0,
+        };
+    }
+    let f = s.format;
+    planes::plane_place(f, geometry::line_alignment(sheet), bytes, k)
+}
+
 // Plane k of a frame of the present format: that part of the frame itself, and 0 in number; or an empty part and 22.
 pub fn plane<'a>(sheet: &'a [u8], s: State, frame: &'a [u8], k: u32, number: &mut u32) -> &'a [u8]
     ensures { λ r. ⌜ now r ≡ devicePlane (now (sheet .entry)) s (now (frame .entry)) k ⌝ }
-    ensures { λ r. ⌜ now (number .exit) ≡ devicePlaneNumber (now (sheet .entry)) s (now (frame .entry)) k ⌝ }
+    ensures { λ _. ⌜ now (number .exit) ≡ devicePlace (now (sheet .entry)) s (length (now (frame .entry))) k .number ⌝ }
 {
-    if s.ready == 0 {
-        *number = ioctl::errno(Refusal::Closed);
-        return wire::part(frame, 0, 0);
-    }
-    let f = s.format;
-    planes::plane(f, geometry::line_alignment(sheet), frame, k, number)
+    let p = plane_place(sheet, s, frame.len(), k);
+    *number = p.number;
+    wire::part(frame, p.start, p.length)
 }

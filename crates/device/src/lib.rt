@@ -6,6 +6,7 @@ mod requests;
 use arrival::Arrival;
 pub use film::arrive;
 pub use film::plane;
+pub use film::plane_place;
 pub use film::verdict_of;
 pub use opening::open_device;
 pub use requests::request;

@@ -4,12 +4,14 @@ use mathlib.Core.Bool.{Bool, true, false, cond, not, _&&_, _||_}
 use mathlib.Core.List.{List, [], _∷_}
 use lib.Dec.{eqb, leb}
 use lib.ListN.{length, getD, take, drop}
+use Rattle.planes.specs.declared.Place.{Place}
 use Rattle.format.specs.declared.Format.{Format}
 use Rattle.planes.specs.declared.Component.{Component}
 use Rattle.planes.specs.declared.Component.the-variants.{Nothing, Packed, Luma, Cb, Cr, CbCr}
 use Rattle.format.specs.Code.{YU12, YV12, NV12}
 use Rattle.format.specs.Size.{bytesPerLine, heldHeight, imageSize}
 use Rattle.ioctl.specs.Refusal.{errnoOf}
+use Rattle.ioctl.specs.declared.refusals.Refusal.{Refusal}
 use Rattle.ioctl.specs.declared.refusals.Refusal.the-variants.{NoSuchPlane}
 
 -- the planes of a code in their order: Cb first in YU12, Cr first in YV12, both interleaved in NV12; the others have one
@@ -44,14 +46,18 @@ planeLength f a k = componentLength f a (componentOf (f .code) k)
 unfoldable pub planeStart : Format → ℕ → ℕ → ℕ
 planeStart f a k = cond (eqb k 0) 0 (cond (eqb k 1) (planeLength f a 0) (planeLength f a 0 + planeLength f a 1))
 
--- the frame is not of the format's size, or the format has no plane k
-unfoldable pub planeRefused : Format → ℕ → List ℕ → ℕ → Bool
-planeRefused f a frame k = not (eqb (length frame) (imageSize f a)) || leb (planeCount (f .code)) k
+-- n bytes are not the format's size, or the format has no plane k
+unfoldable pub planeRefused : Format → ℕ → ℕ → ℕ → Bool
+planeRefused f a n k = not (eqb n (imageSize f a)) || leb (planeCount (f .code)) k
 
--- the number of the refusal, or 0
-unfoldable pub planeNumber : Format → ℕ → List ℕ → ℕ → ℕ
-planeNumber f a frame k = cond (planeRefused f a frame k) (errnoOf NoSuchPlane) 0
+-- a refusal, with no bytes
+abbrev pub noPlace : Refusal → Place
+noPlace why = record { number = errnoOf why; start = 0; length = 0 }
 
--- nothing of the frame, or the part of it that is plane k
-unfoldable pub planeOf : Format → ℕ → List ℕ → ℕ → List ℕ
-planeOf f a frame k = cond (planeRefused f a frame k) [] (take (planeLength f a k) (drop (planeStart f a k) frame))
+-- where plane k of a frame of n bytes lies
+unfoldable pub placeOf : Format → ℕ → ℕ → ℕ → Place
+placeOf f a n k = cond (planeRefused f a n k) (noPlace NoSuchPlane) (record { number = 0; start = planeStart f a k; length = planeLength f a k })
+
+-- the part of a frame at a place
+abbrev pub partAt : Place → List ℕ → List ℕ
+partAt p frame = take (p .length) (drop (p .start) frame)

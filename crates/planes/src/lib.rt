@@ -1,8 +1,8 @@
 // The planes of a picture: what each holds, and the part of a lent frame that it is.
 ghost use mathlib.Core.Path.{_≡_};
 ghost use mathlib.Core.List.{[], _∷_};
-ghost use lib.ListN.{getD};
-ghost use Rattle.planes.specs.Planes.{componentOf, planeCount, componentLength, planeStart, planeNumber, planeOf};
+ghost use lib.ListN.{getD, length};
+ghost use Rattle.planes.specs.Planes.{componentOf, planeCount, componentLength, planeStart, placeOf, partAt};
 ghost use Rattle.planes.specs.declared.Component.the-variants.{Nothing};
 use format::Format;
 use ioctl::Refusal;
@@ -15,6 +15,14 @@ pub enum Component {
     Cb,
     Cr,
     CbCr,
+}
+
+// Where a plane lies in its frame: length bytes from start on, and 0 in number; or no bytes, and the number of a refusal.
+#[repr(C)]
+pub struct Place {
+    pub number: u32,
+    pub start: usize,
+    pub length: usize,
 }
 
 // The one of three at a place.
@@ -95,22 +103,35 @@ fn plane_start(f: Format, alignment: u32, k: u32) -> u32
     first + component_length(f, alignment, plane_component(f.code, 1))
 }
 
-// Plane k of a frame: that part of the frame itself, and 0 in number. Where the frame is not of the format's size or the
-// format has no such plane, an empty part, and the number of the refusal.
-pub fn plane<'a>(f: Format, alignment: u32, frame: &'a [u8], k: u32, number: &mut u32) -> &'a [u8]
-    ensures { λ r. ⌜ now r ≡ planeOf f alignment (now (frame .entry)) k ⌝ }
-    ensures { λ r. ⌜ now (number .exit) ≡ planeNumber f alignment (now (frame .entry)) k ⌝ }
+// Where plane k of a frame of so many bytes lies. Where that is not the format's size or the format has no such plane, the
+// number of the refusal and no bytes.
+pub fn plane_place(f: Format, alignment: u32, bytes: usize, k: u32) -> Place
+    ensures { λ r. ⌜ r ≡ placeOf f alignment bytes k ⌝ }
 {
     let size = format::image_size(f, alignment) as usize;
-    if (frame.len() != size) | (plane_count(f.code) <= k) {
-        *number = ioctl::errno(Refusal::NoSuchPlane);
-        return wire::part(frame, 0, 0);
+    if (bytes != size) | (plane_count(f.code) <= k) {
+        let number = ioctl::errno(Refusal::NoSuchPlane);
+        return Place {
+            number,
+            start: 0,
+            length: 0,
+        };
     }
-    *number = 0;
     let start = plane_start(f, alignment, k) as usize;
-    wire::part(
-        frame,
+    let length = component_length(f, alignment, plane_component(f.code, k)) as usize;
+    Place {
+        number: 0,
         start,
-        component_length(f, alignment, plane_component(f.code, k)) as usize,
-    )
+        length,
+    }
+}
+
+// Plane k of a frame: that part of the frame itself, and 0 in number; or an empty part, and the number of the refusal.
+pub fn plane<'a>(f: Format, alignment: u32, frame: &'a [u8], k: u32, number: &mut u32) -> &'a [u8]
+    ensures { λ r. ⌜ now r ≡ partAt (placeOf f alignment (length (now (frame .entry))) k) (now (frame .entry)) ⌝ }
+    ensures { λ _. ⌜ now (number .exit) ≡ placeOf f alignment (length (now (frame .entry))) k .number ⌝ }
+{
+    let p = plane_place(f, alignment, frame.len(), k);
+    *number = p.number;
+    wire::part(frame, p.start, p.length)
 }

@@ -1,78 +1,17 @@
--- Both answers go by the one test. Assumes nothing.
-use mathlib.Core.Path.{_≡_}
-use mathlib.Core.Bool.{true, false}
-use denote.Ref.{now}
-use Rattle.planes.specs.Planes.{planeRefused, planeNumber, planeOf, planeLength}
+-- The part at the place, and its number. Assumes nothing.
+use mathlib.Core.Path.{refl}
 use borrow.Author.Needs.{needs}
 use Rattle.planes.proofs.plane.Statement.{statement}
 use Rattle.planes.proofs.plane.Tie as tie
 
--- what the test decided
-refused : (c : tie.Then1) → planeRefused (c .before .before .before .before .args .f) (c .before .before .before .before .args .alignment)
-    (now (c .before .before .before .before .args .frame)) (c .before .before .before .before .args .k) ≡ true
-unfolding planeRefused
-refused c = rw (← c .before .before .image-size .ensures, ← c .before .plane-count .ensures) (c .if1 .taken)
-
-allowed : (c : tie.Else1) → planeRefused (c .before .before .before .before .args .f) (c .before .before .before .before .args .alignment)
-    (now (c .before .before .before .before .args .frame)) (c .before .before .before .before .args .k) ≡ false
-unfolding planeRefused
-allowed c = rw (← c .before .before .image-size .ensures, ← c .before .plane-count .ensures) (c .if1 .left)
-
-image-size-requires : tie.Need-image-size-requires
-image-size-requires c κs = search needs
-
-cast-size : tie.Need-cast-size
-cast-size c = search needs
-
-plane-count-requires : tie.Need-plane-count-requires
-plane-count-requires c κs = search needs
-
-errno-requires : tie.Need-errno-requires
-errno-requires c κs = search needs
+plane-place-requires : tie.Need-plane-place-requires
+plane-place-requires c κs = search needs
 
 part-requires : tie.Need-part-requires
 part-requires c κs = search needs
 
 returns : tie.Need-returns
-unfolding planeNumber planeOf
-returns c = rw (refused (c .before .before)) (cc, cc)
-
-plane-start-requires : tie.Need-plane-start-requires
-plane-start-requires c κs = search needs
-
-cast-start : tie.Need-cast-start
-cast-start c = search needs
-
-plane-component-requires : tie.Need-plane-component-requires
-plane-component-requires c κs = search needs
-
-component-length-requires : tie.Need-component-length-requires
-component-length-requires c κs = search needs
-
-cast-part : tie.Need-cast-part
-cast-part c = search needs
-
-part-requires-2 : tie.Need-part-requires-2
-part-requires-2 c κs = search needs
-
-returns-2 : tie.Need-returns-2
-unfolding planeNumber planeOf planeLength
-returns-2 c = rw (allowed (c .before .before .before .before)) (cc, cc)
+returns c = rw (← c .before .plane-place .ensures) (c .part .ensures, refl)
 
 pub plane-spec : {M : Type 1} → statement M
-plane-spec =
-    tie.close
-    (tie.spec
-    image-size-requires
-    cast-size
-    plane-count-requires
-    errno-requires
-    part-requires
-    returns
-    plane-start-requires
-    cast-start
-    plane-component-requires
-    component-length-requires
-    cast-part
-    part-requires-2
-    returns-2)
+plane-spec = tie.close (tie.spec plane-place-requires part-requires returns)
