@@ -1,0 +1,215 @@
+//! Devices of any content: random bytes, or an opened device with some of its bytes changed. No history leads to them,
+//! so they are not compared with the model. They must be answered, within the numbers that exist, and a refused call
+//! must change nothing.
+
+use crate::coverage::{Coverage, NUMBERS};
+use crate::ffi::{Device, DEVICE_SIZE};
+use crate::generate::{self, sheets};
+use crate::guarded::Guarded;
+use crate::model;
+use crate::random::{self, Random};
+use crate::recorder::{Arrived, Recorder, BLANK, COMPLETE, REFUSED, STORED};
+use crate::session::{Arrival, Lent, Step};
+use crate::show;
+
+/// Where the C interface has the state, and in it the length of the picture memory.
+const STATE_AT: usize = 2688;
+const LENGTH_AT: usize = STATE_AT + 160;
+/// Whether it streams, and how many arrivals the run accepted.
+const STREAMING_AT: usize = LENGTH_AT + 8;
+const ACCEPTED_AT: usize = LENGTH_AT + 24;
+
+/// Runs about this many calls; says what went wrong, if anything did.
+pub fn run(seed: u64, calls: u64) -> Result<Coverage, String> {
+    let mut coverage = Coverage::default();
+    let mut index = 0;
+    while coverage.calls < calls {
+        let seed = random::mix(seed.wrapping_add(1) ^ random::mix(index));
+        one(seed, &mut coverage).map_err(|fault| format!("device of any content, seed {seed:#x}: {fault}"))?;
+        index += 1;
+    }
+    Ok(coverage)
+}
+
+/// One device and the steps of one session on it.
+fn one(seed: u64, coverage: &mut Coverage) -> Result<(), String> {
+    let mut random = Random::new(seed);
+    let length = random.pick(&[0, 100, 4096, 20_000, 50_000]);
+    let zero = random.chance(10);
+    let mut device = if zero { Device::zeroed() } else { content(&mut random, length as u64) };
+    let mut memory = Guarded::default();
+    memory.reset(length, 0);
+    random.fill(memory.body_mut());
+    let session = generate::session(random.draw());
+    for step in &session.steps {
+        if zero {
+            closed(&mut device, step, memory.body_mut())?;
+        } else {
+            spoiled(&mut device, step, &mut memory, &mut random, coverage)
+                .map_err(|fault| format!("{}: {fault}", show::step(step)))?;
+        }
+        coverage.calls += 1;
+    }
+    Ok(())
+}
+
+/// A device of zeros refuses every call with 22, is BLANK and stays a device of zeros.
+fn closed(device: &mut Device, step: &Step, memory: &mut [u8]) -> Result<(), String> {
+    let number = match step {
+        Step::Open { .. } => 22,
+        Step::Request { word, argument } => device.request(*word, &mut argument.clone()),
+        Step::Arrival(one) => {
+            let arrived = device.arrival(memory, &[], one.seconds, one.microseconds);
+            check((arrived.answer, arrived.buffer) == (REFUSED, 0), "zeros answered an arrival")?;
+            arrived.number
+        }
+        Step::Plane { frame_length, plane } => device.plane(*frame_length, *plane).number,
+    };
+    check(number == 22 && device.verdict() == BLANK, "a device of zeros is not closed")?;
+    check(kept(device) == [0; DEVICE_SIZE], "a device of zeros changed")
+}
+
+/// A step on a device of any content; now and then one more word of it is changed.
+fn spoiled(
+    device: &mut Device,
+    step: &Step,
+    memory: &mut Guarded,
+    random: &mut Random,
+    coverage: &mut Coverage,
+) -> Result<(), String> {
+    if random.chance(5) {
+        change_word(random, &mut device.bytes[STATE_AT..]);
+    }
+    match step {
+        // A device that was opened well gets one change at least.
+        Step::Open { sheet, .. } if random.chance(50) => {
+            device.open(sheet, memory.body().len() as u64);
+            change_word(random, &mut device.bytes[STATE_AT..]);
+        }
+        Step::Open { .. } => {}
+        Step::Request { word, argument } => coverage.request(*word, request(device, *word, argument)?),
+        Step::Arrival(one) => coverage.arrival(arrival(device, memory, one, random)?),
+        Step::Plane { frame_length, plane: index } => plane(device, *frame_length, *index)?,
+    }
+    check(device.verdict() <= COMPLETE, "a verdict that is none")
+}
+
+/// A device of some content; its picture memory is mostly of this length.
+fn content(random: &mut Random, length: u64) -> Device {
+    let mut device = Device::zeroed();
+    match random.below(4) {
+        0 => random.fill(&mut device.bytes),
+        1 => {
+            device.open(&sheets::small(random).bytes(), length);
+            random.fill(&mut device.bytes[STATE_AT..]);
+        }
+        2 => {
+            device.open(&sheets::limits(random).bytes(), length);
+            for _ in 0..random.between(1, 40) {
+                change_word(random, &mut device.bytes[STATE_AT..]);
+            }
+        }
+        _ => {
+            device.open(&sheets::small(random).bytes(), length);
+            for _ in 0..random.between(1, 20) {
+                change_word(random, &mut device.bytes);
+            }
+        }
+    }
+    let mut put = |at: usize, bytes: &[u8]| device.bytes[at..at + bytes.len()].copy_from_slice(bytes);
+    if random.chance(80) {
+        // Let the device count as opened, and its memory as the one that is lent.
+        put(STATE_AT, &1u32.to_le_bytes());
+        put(LENGTH_AT, &length.to_le_bytes());
+    }
+    if random.chance(30) {
+        put(STREAMING_AT, &1u32.to_le_bytes());
+    }
+    if random.chance(10) {
+        // Near the last number of a run.
+        let near = u64::from(u32::MAX) + random.below(5) as u64 - 2;
+        put(ACCEPTED_AT, &near.to_le_bytes());
+    }
+    device
+}
+
+/// One word becomes a number that is small, or at an end of the numbers, or any.
+fn change_word(random: &mut Random, bytes: &mut [u8]) {
+    let at = 4 * random.below(bytes.len() / 4);
+    let any = random.word();
+    let word = random.pick(&[0, 1, 2, 31, 32, 33, 255, 4096, 0x7fff_ffff, 0x8000_0000, u32::MAX, any]);
+    bytes[at..at + 4].copy_from_slice(&word.to_le_bytes());
+}
+
+fn check(holds: bool, fault: &str) -> Result<(), String> {
+    if holds {
+        Ok(())
+    } else {
+        Err(fault.into())
+    }
+}
+
+/// All that the device keeps.
+fn kept(device: &Device) -> Vec<u8> {
+    let mut bytes = Vec::new();
+    device.content(&mut bytes);
+    bytes
+}
+
+fn request(device: &mut Device, word: u32, argument: &[u8]) -> Result<u32, String> {
+    let before = kept(device);
+    let mut lent = Guarded::default();
+    lent.set(argument, argument.len());
+    let number = device.request(word, lent.body_mut());
+    check(NUMBERS.contains(&number), "a number that is none")?;
+    check(lent.intact(), "a byte outside the argument changed")?;
+    let write_only = word >> 30 == 1;
+    check(!(number != 0 || write_only) || lent.body() == argument, "an argument changed that had to stay")?;
+    check(number == 0 || kept(device) == before, "a refusal changed the device")?;
+    Ok(number)
+}
+
+fn arrival(device: &mut Device, memory: &mut Guarded, one: &Arrival, random: &mut Random) -> Result<Arrived, String> {
+    let before = kept(device);
+    let held = memory.body().to_vec();
+    // A device of any content has any image size: ask it for one that it would take.
+    let mut format = [0; 204];
+    format[0] = 1;
+    device.request(model::words::G_FMT, &mut format);
+    let size = u32::from_le_bytes([format[24], format[25], format[26], format[27]]) as usize;
+    let length = if size <= 100_000 && random.chance(70) { size } else { one.frame_length };
+    let mut frame = Guarded::default();
+    frame.reset(length, 3);
+    random::fill(one.frame_seed, frame.body_mut());
+    let sent = frame.body().to_vec();
+    let arrived = match one.lent {
+        Lent::Memory => device.arrival(memory.body_mut(), frame.body(), one.seconds, one.microseconds),
+        Lent::Other(length) => {
+            let mut other = Guarded::default();
+            other.reset(length, 5);
+            let arrived = device.arrival(other.body_mut(), frame.body(), one.seconds, one.microseconds);
+            check(other.intact(), "a byte outside the lent memory changed")?;
+            arrived
+        }
+    };
+    check(arrived.answer <= STORED, "an answer that is none")?;
+    check(memory.intact() && frame.intact(), "a byte outside what was lent changed")?;
+    check(frame.body() == sent, "the frame changed")?;
+    check(arrived.answer == STORED || memory.body() == held, "memory changed without a stored frame")?;
+    if arrived.answer == REFUSED {
+        check(arrived.number != 0 && NUMBERS.contains(&arrived.number), "a refusal without its number")?;
+        check(kept(device) == before, "a refusal changed the device")?;
+    }
+    Ok(arrived)
+}
+
+fn plane(device: &Device, frame_length: usize, plane: u32) -> Result<(), String> {
+    let answer = device.plane(frame_length, plane);
+    let inside = answer.start.checked_add(answer.length).is_some_and(|end| end <= frame_length);
+    check(matches!(answer.number, 0 | 22), "a number that is none")?;
+    check(inside, "a plane outside its frame")?;
+    check(answer.number == 0 || (answer.start, answer.length) == (0, 0), "a refused plane with bytes")
+}
+
+// The state ends with the device.
+const _: () = assert!(STATE_AT + 1008 == DEVICE_SIZE);

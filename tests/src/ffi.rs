@@ -1,0 +1,82 @@
+//! The library through its C interface.
+
+use crate::random;
+use crate::recorder::{Arrived, Plane, Recorder};
+
+/// The size of the C interface's device, in bytes.
+pub const DEVICE_SIZE: usize = 3696;
+
+/// The bytes between the fields of the header's structs and behind them: they hold nothing.
+const PADDING: [(usize, usize); 3] = [(2860, 2864), (2868, 2872), (3692, 3696)];
+
+/// The device as the C interface lays it out; its bytes are the library's own.
+#[repr(C, align(8))]
+#[derive(Clone)]
+pub struct Device {
+    pub bytes: [u8; DEVICE_SIZE],
+}
+
+extern "C" {
+    fn tg_open(d: *mut Device, sheet: *const u8, sheet_length: usize, picture_length: u64) -> u32;
+    fn tg_request(d: *mut Device, word: u32, argument: *mut u8, length: usize) -> u32;
+    fn tg_arrival(
+        d: *mut Device,
+        memory: *mut u8,
+        memory_length: usize,
+        frame: *const u8,
+        frame_length: usize,
+        seconds: i32,
+        microseconds: i32,
+    ) -> Arrived;
+    fn tg_verdict(d: *const Device) -> u32;
+    fn tg_plane(d: *const Device, frame_length: usize, plane: u32) -> Plane;
+}
+
+impl Device {
+    pub const fn zeroed() -> Device {
+        Device { bytes: [0; DEVICE_SIZE] }
+    }
+}
+
+// In all calls: the references give valid pointers for the whole call, slices give their own lengths (an empty slice's
+// pointer is not null), and what is lent does not overlap, since it is borrowed apart.
+impl Recorder for Device {
+    fn open(&mut self, sheet: &[u8], picture_length: u64) -> u32 {
+        // SAFETY: see above.
+        unsafe { tg_open(self, sheet.as_ptr(), sheet.len(), picture_length) }
+    }
+
+    fn request(&mut self, word: u32, argument: &mut [u8]) -> u32 {
+        // SAFETY: see above.
+        unsafe { tg_request(self, word, argument.as_mut_ptr(), argument.len()) }
+    }
+
+    fn arrival(&mut self, memory: &mut [u8], frame: &[u8], seconds: i32, microseconds: i32) -> Arrived {
+        // SAFETY: see above.
+        unsafe {
+            tg_arrival(self, memory.as_mut_ptr(), memory.len(), frame.as_ptr(), frame.len(), seconds, microseconds)
+        }
+    }
+
+    fn verdict(&self) -> u32 {
+        // SAFETY: see above.
+        unsafe { tg_verdict(self) }
+    }
+
+    fn plane(&self, frame_length: usize, plane: u32) -> Plane {
+        // SAFETY: see above.
+        unsafe { tg_plane(self, frame_length, plane) }
+    }
+
+    fn content(&self, into: &mut Vec<u8>) {
+        into.clear();
+        into.extend_from_slice(&self.bytes);
+        for (from, to) in PADDING {
+            into[from..to].fill(0);
+        }
+    }
+
+    fn scramble(&mut self, seed: u64) {
+        random::fill(seed, &mut self.bytes);
+    }
+}

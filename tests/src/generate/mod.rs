@@ -1,0 +1,350 @@
+//! Sessions at random. The generator runs the model beside it, so that it knows which calls lead deeper.
+
+pub mod arguments;
+pub mod damage;
+pub mod hostile;
+pub mod sheets;
+
+use crate::draft::Draft;
+use crate::model::buffers::Place;
+use crate::model::words::*;
+use crate::model::{Device, Opened};
+use crate::random::Random;
+use crate::recorder::Recorder;
+use crate::session::{made_length, Arrival, Lent, Session, Step};
+
+/// How a session goes.
+#[derive(Clone, Copy, PartialEq)]
+enum Manner {
+    /// Runs in which every frame is handed over before the stop.
+    Careful,
+    /// Runs with queues that fill and empty at random.
+    Busy,
+    /// All calls, most of them well made.
+    Mixed,
+    /// Many calls with something wrong.
+    Hostile,
+    /// As many buffers as there can be, and queues that are filled and emptied whole.
+    Full,
+    /// One opening after the other.
+    Openings,
+}
+
+impl Manner {
+    /// How many of a hundred calls have something wrong.
+    fn hostility(self) -> usize {
+        match self {
+            Manner::Careful => 2,
+            Manner::Full => 1,
+            Manner::Busy => 5,
+            Manner::Mixed => 15,
+            Manner::Hostile => 55,
+            Manner::Openings => 30,
+        }
+    }
+}
+
+/// The longest frame that is made to arrive whole.
+const LONGEST_FRAME: usize = 400_000;
+
+struct Generator {
+    random: Random,
+    manner: Manner,
+    device: Device,
+    /// Stand for the picture memory and the frames: here only lengths matter.
+    memory: Vec<u8>,
+    other: Vec<u8>,
+    frame: Vec<u8>,
+    steps: Vec<Step>,
+}
+
+/// The session of this seed.
+pub fn session(seed: u64) -> Session {
+    let mut random = Random::new(seed);
+    let manners = [Manner::Careful, Manner::Busy, Manner::Mixed, Manner::Hostile, Manner::Full, Manner::Openings];
+    let manner = manners[random.weighted(&[25, 34, 20, 15, 1, 5])];
+    let before = if random.chance(80) { random.draw() | 1 } else { 0 };
+    // Full sessions are long, so that queues hold 32 and runs get numbers above a byte.
+    let length = if manner == Manner::Full { 1500 } else { random.between(20, 90) as usize };
+    let mut generator = Generator {
+        random,
+        manner,
+        device: Device::closed(),
+        memory: Vec::new(),
+        other: Vec::new(),
+        frame: Vec::new(),
+        steps: Vec::new(),
+    };
+    // Now and then some calls meet a device that was never opened.
+    if before == 0 && generator.random.chance(50) {
+        for _ in 0..3 {
+            generator.any_step();
+        }
+    }
+    generator.opening();
+    while generator.steps.len() < length {
+        generator.step();
+    }
+    Session { seed, before, steps: generator.steps }
+}
+
+impl Generator {
+    /// Adds a step and lets the model make it.
+    fn add(&mut self, step: Step) {
+        match &step {
+            Step::Open { sheet, picture_length } => {
+                self.device.open(sheet, *picture_length);
+                self.memory.resize(made_length(*picture_length), 0);
+            }
+            Step::Request { word, argument } => {
+                let mut answer = [0; 512];
+                self.device.request(*word, answer_of(&mut answer, argument));
+            }
+            Step::Arrival(arrival) => {
+                self.frame.resize(arrival.frame_length, 0);
+                let memory = match arrival.lent {
+                    Lent::Memory => &mut self.memory,
+                    Lent::Other(length) => {
+                        self.other.resize(length, 0);
+                        &mut self.other
+                    }
+                };
+                self.device.arrival(memory, &self.frame, arrival.seconds, arrival.microseconds);
+            }
+            Step::Plane { .. } => {}
+        }
+        self.steps.push(step);
+    }
+
+    fn step(&mut self) {
+        if self.manner == Manner::Openings && self.random.chance(50) {
+            return self.opening();
+        }
+        if self.random.chance(self.manner.hostility()) {
+            return self.hostile_step();
+        }
+        match self.device.opened() {
+            None if self.random.chance(40) => self.opening(),
+            None => self.any_step(),
+            Some(_) => self.useful_step(),
+        }
+    }
+
+    /// Opens with a sheet that is mostly good and a memory that mostly holds some buffers.
+    fn opening(&mut self) {
+        let random = &mut self.random;
+        if self.manner == Manner::Full {
+            let picture_length = 4096 * random.between(31, 34) as u64;
+            let sheet = sheets::tiny(random).bytes();
+            return self.add(Step::Open { sheet, picture_length });
+        }
+        let bad = if self.manner == Manner::Openings { 60 } else { 4 };
+        let (sheet, one) = if random.chance(bad) {
+            (damage::damaged(random), 4096)
+        } else {
+            let draft = match random.weighted(&[84, 15, 1]) {
+                0 => sheets::small(random),
+                1 => sheets::limits(random),
+                _ => Draft::bench(),
+            };
+            let sheet = draft.bytes();
+            let (_, device) = crate::model::open(&sheet, 0);
+            let slot = device.opened().map_or(4096, |opened| opened.picture.slot());
+            (sheet, slot)
+        };
+        let picture_length = memory_length(random, one);
+        self.add(Step::Open { sheet, picture_length });
+    }
+
+    /// A call that is likely to be accepted and to lead on, by what the device keeps.
+    fn useful_step(&mut self) {
+        let Some(opened) = self.device.opened() else { return };
+        let (buffers, streaming) = (opened.stream.granted > 0, opened.stream.streaming);
+        let (incoming, outgoing) = (opened.stream.incoming.len(), opened.stream.outgoing.len());
+        let dequeued = opened.stream.granted - incoming - outgoing;
+        if self.manner == Manner::Careful && streaming {
+            return self.careful_step(incoming, outgoing, dequeued);
+        }
+        if self.manner == Manner::Full {
+            return self.full_step(buffers, streaming);
+        }
+        // Buffers, S_FMT, QBUF, STREAMON, arrival, DQBUF, stop, anything.
+        let weights = match (buffers, streaming) {
+            (false, _) => [35, 20, 1, 2, 2, 1, 1, 38],
+            (true, false) => [4, 2, if dequeued > 0 { 45 } else { 3 }, 20, 4, 3, 2, 15],
+            (true, true) => {
+                let dequeue = if outgoing > 0 { 25 } else { 5 };
+                [1, 1, if dequeued > 0 { 25 } else { 2 }, 1, 30, dequeue, 3, 12]
+            }
+        };
+        match self.random.weighted(&weights) {
+            0 => self.request(REQBUFS),
+            1 => self.request(S_FMT),
+            2 => self.request(QBUF),
+            3 => self.request(STREAMON),
+            4 => self.arrival(),
+            5 => self.request(DQBUF),
+            6 => self.stop(),
+            _ => self.any_step(),
+        }
+    }
+
+    /// In a careful run nothing is dropped or damaged, and the stop comes when all is handed over.
+    fn careful_step(&mut self, incoming: usize, outgoing: usize, dequeued: usize) {
+        let weights = [
+            if dequeued > 0 { 25 } else { 0 },
+            if incoming > 0 { 35 } else { 0 },
+            if outgoing > 0 { 30 } else { 1 },
+            if outgoing == 0 { 5 } else { 0 },
+            5,
+        ];
+        match self.random.weighted(&weights) {
+            0 => self.request(QBUF),
+            1 => self.whole_arrival(),
+            2 => self.request(DQBUF),
+            3 => self.stop(),
+            _ => {
+                let word = self.random.pick(&[G_FMT, QUERYBUF, G_CTRL, QUERYCTRL, G_CROP, S_CROP, S_CTRL, QUERYCAP]);
+                self.request(word);
+            }
+        }
+    }
+
+    /// The same call many times over, so that a queue is filled or emptied whole; a stop is rare.
+    fn full_step(&mut self, buffers: bool, streaming: bool) {
+        if !buffers {
+            let argument = arguments::reqbufs(&mut self.random, 32);
+            return self.add(Step::Request { word: REQBUFS, argument });
+        }
+        if !streaming {
+            return self.request(STREAMON);
+        }
+        let times = self.random.pick(&[1, 3, 33, 40]);
+        match self.random.below(80) {
+            0 => self.stop(),
+            1..=10 => self.any_step(),
+            11..=35 => (0..times).for_each(|_| self.request(QBUF)),
+            36..=58 => (0..times).for_each(|_| self.whole_arrival()),
+            _ => (0..times).for_each(|_| self.request(DQBUF)),
+        }
+    }
+
+    fn any_step(&mut self) {
+        match self.random.below(16) {
+            0 => self.plane(),
+            1 => self.arrival(),
+            2..=5 => {
+                let word = self.random.pick(&[S_CTRL, S_CTRL, G_CTRL, QUERYCTRL, TRY_FMT, S_CROP]);
+                self.request(word);
+            }
+            _ => {
+                let (word, _) = self.random.pick(&ALL);
+                self.request(word);
+            }
+        }
+    }
+
+    fn stop(&mut self) {
+        if self.random.chance(70) {
+            self.request(STREAMOFF);
+        } else {
+            let argument = arguments::reqbufs(&mut self.random, 0);
+            self.add(Step::Request { word: REQBUFS, argument });
+        }
+    }
+
+    /// A well made argument for a known word.
+    fn request(&mut self, word: u32) {
+        let argument = arguments::argument(&mut self.random, self.device.opened(), word);
+        self.add(Step::Request { word, argument });
+    }
+
+    fn plane(&mut self) {
+        let size = self.device.image_size();
+        let frame_length = self.random.pick(&[size, size, size, size.wrapping_sub(1), size + 1, 0, usize::MAX]);
+        let plane = self.random.pick(&[0, 1, 2, 3, 4, u32::MAX]);
+        self.add(Step::Plane { frame_length, plane });
+    }
+
+    /// A frame of the image size, unless that is too long to be made.
+    fn whole_arrival(&mut self) {
+        let size = self.device.image_size();
+        if size > LONGEST_FRAME {
+            return self.arrival();
+        }
+        let seconds = self.random.pick(&[0, 1, 1000, -1, i32::MIN, i32::MAX, 86_400]);
+        let microseconds = self.random.pick(&[0, 1, 40_000, 500_000, 999_999]);
+        let frame_seed = self.random.draw();
+        self.add(Step::Arrival(Arrival { lent: Lent::Memory, frame_length: size, frame_seed, seconds, microseconds }));
+    }
+
+    /// A frame that is whole most of the time.
+    fn arrival(&mut self) {
+        let size = self.device.image_size();
+        if size <= LONGEST_FRAME && self.random.chance(80) {
+            return self.whole_arrival();
+        }
+        let arrival = hostile::arrival(&mut self.random, size.min(LONGEST_FRAME), self.memory.len());
+        self.add(Step::Arrival(arrival));
+    }
+
+    fn hostile_step(&mut self) {
+        match self.random.below(20) {
+            0 => self.plane(),
+            1 => self.opening(),
+            2..=4 => {
+                let size = self.device.image_size().min(LONGEST_FRAME);
+                let arrival = hostile::arrival(&mut self.random, size, self.memory.len());
+                self.add(Step::Arrival(arrival));
+            }
+            _ => {
+                let opened: Option<&Opened> = self.device.opened();
+                let (word, argument) = hostile::request(&mut self.random, opened);
+                self.add(Step::Request { word, argument });
+            }
+        }
+    }
+}
+
+/// A copy of the argument in a buffer that is large enough for every known word.
+fn answer_of<'a>(buffer: &'a mut [u8; 512], argument: &[u8]) -> &'a mut [u8] {
+    let length = argument.len().min(buffer.len());
+    buffer[..length].copy_from_slice(&argument[..length]);
+    &mut buffer[..length]
+}
+
+/// Room for some slots, often with bytes left over, sometimes for none, rarely more than is allowed.
+fn memory_length(random: &mut Random, slot: u64) -> u64 {
+    let most = 200_000 / slot;
+    let slots = match random.below(20) {
+        0..=9 => random.between(1, 5) as u64,
+        10..=15 => random.between(2, 12) as u64,
+        16 | 17 => random.between(30, 40) as u64,
+        _ => return odd_memory_length(random, slot),
+    };
+    let over = if random.chance(50) { 0 } else { random.below(4096) as u64 };
+    slots.min(most.max(1)) * slot.min(400_000) + over
+}
+
+fn odd_memory_length(random: &mut Random, slot: u64) -> u64 {
+    match random.below(8) {
+        0 | 1 => 0,
+        2 => random.below(4096) as u64,
+        3 | 4 => slot.min(400_000) - 1,
+        5 => 1 << 30,
+        6 => (1 << 30) + 1,
+        _ => random.pick(&[u64::MAX, 1 << 32, (1 << 30) - 1, 1 << 31]),
+    }
+}
+
+/// A buffer that is dequeued, if there is one.
+pub fn dequeued(opened: &Opened, random: &mut Random) -> Option<usize> {
+    let granted = opened.stream.granted;
+    if granted == 0 {
+        return None;
+    }
+    let from = random.below(granted);
+    (0..granted)
+        .map(|place| (from + place) % granted)
+        .find(|index| matches!(opened.stream.places[*index], Place::Dequeued))
+}

@@ -1,0 +1,87 @@
+//! What every device under comparison can do, and the answers it gives.
+
+use crate::model;
+
+/// The answers to an arrival.
+pub const REFUSED: u32 = 0;
+pub const IGNORED: u32 = 1;
+pub const DAMAGED: u32 = 2;
+pub const DROPPED: u32 = 3;
+pub const STORED: u32 = 4;
+
+/// The verdicts on the film of the last run.
+pub const RUNNING: u32 = 0;
+pub const BLANK: u32 = 1;
+pub const GAPS: u32 = 2;
+pub const COMPLETE: u32 = 3;
+
+/// The answer to an arrival. `number` is the number given back if refused and the frame's number if stored.
+#[repr(C)]
+#[derive(Clone, Copy, Debug, PartialEq, Eq)]
+pub struct Arrived {
+    pub answer: u32,
+    pub number: u32,
+    pub buffer: u32,
+}
+
+/// Where a plane lies in a frame, or a refusal: 22, 0, 0.
+#[repr(C)]
+#[derive(Clone, Copy, Debug, PartialEq, Eq)]
+pub struct Plane {
+    pub number: u32,
+    pub start: usize,
+    pub length: usize,
+}
+
+/// A capture device that can be opened again and again.
+pub trait Recorder {
+    /// A new device of this sheet takes the place of the old one.
+    fn open(&mut self, sheet: &[u8], picture_length: u64) -> u32;
+    fn request(&mut self, word: u32, argument: &mut [u8]) -> u32;
+    fn arrival(&mut self, memory: &mut [u8], frame: &[u8], seconds: i32, microseconds: i32) -> Arrived;
+    fn verdict(&self) -> u32;
+    fn plane(&self, frame_length: usize, plane: u32) -> Plane;
+
+    /// Fills what the device is made of with bytes of this seed, before an opening; 0 stands for zero bytes.
+    fn scramble(&mut self, _seed: u64) {}
+
+    /// A copy of all that the device keeps, if that can be seen: a refused call must leave it as it was.
+    fn content(&self, _into: &mut Vec<u8>) {}
+
+    /// The image size of the present format, for probes of the planes. Only the expecting side is asked.
+    fn image_size(&self) -> usize {
+        0
+    }
+}
+
+impl Recorder for model::Device {
+    fn open(&mut self, sheet: &[u8], picture_length: u64) -> u32 {
+        let (number, device) = model::open(sheet, picture_length);
+        *self = device;
+        number
+    }
+
+    fn request(&mut self, word: u32, argument: &mut [u8]) -> u32 {
+        model::Device::request(self, word, argument)
+    }
+
+    fn arrival(&mut self, memory: &mut [u8], frame: &[u8], seconds: i32, microseconds: i32) -> Arrived {
+        model::Device::arrival(self, memory, frame, seconds, microseconds)
+    }
+
+    fn verdict(&self) -> u32 {
+        model::Device::verdict(self)
+    }
+
+    fn plane(&self, frame_length: usize, plane: u32) -> Plane {
+        model::Device::plane(self, frame_length, plane)
+    }
+
+    fn scramble(&mut self, _seed: u64) {
+        *self = model::Device::closed();
+    }
+
+    fn image_size(&self) -> usize {
+        self.opened().map_or(0, |open| open.picture.image_size as usize)
+    }
+}

@@ -1,0 +1,168 @@
+//! The bench figures of the requirements, on the model and, if it is linked, on the library.
+
+use tollgutter_tests::ask::{ask, done};
+use tollgutter_tests::draft::Draft;
+use tollgutter_tests::model::bytes::{put, put_signed, signed, word};
+use tollgutter_tests::model::format::{YU12, YUYV};
+use tollgutter_tests::model::words::*;
+use tollgutter_tests::model::Device;
+use tollgutter_tests::recorder::*;
+
+const MEMORY: usize = 1_048_576;
+
+/// A device on the bench, and its picture memory.
+struct Bench<R> {
+    device: R,
+    memory: Vec<u8>,
+}
+
+impl<R: Recorder> Bench<R> {
+    fn new(mut device: R) -> Bench<R> {
+        assert_eq!(device.open(&Draft::bench().bytes(), MEMORY as u64), 0);
+        Bench { device, memory: vec![0; MEMORY] }
+    }
+
+    fn request(&mut self, request: u32, fields: &[(usize, u32)]) -> (u32, Vec<u8>) {
+        ask(&mut self.device, request, fields)
+    }
+
+    fn done(&mut self, request: u32, fields: &[(usize, u32)]) -> Vec<u8> {
+        done(&mut self.device, request, fields)
+    }
+
+    fn format(&mut self, code: u32, width: u32, height: u32) -> Vec<u8> {
+        self.done(S_FMT, &[(0, 1), (4, width), (8, height), (12, code)])
+    }
+
+    fn buffers(&mut self, count: u32) -> u32 {
+        word(&self.done(REQBUFS, &[(0, count), (4, 1), (8, 1)]), 0)
+    }
+
+    fn queue(&mut self, index: u32) {
+        self.done(QBUF, &[(0, index), (4, 1), (48, 1)]);
+    }
+
+    fn dequeue(&mut self) -> Vec<u8> {
+        self.done(DQBUF, &[(4, 1), (48, 1)])
+    }
+
+    fn crop(&mut self, left: i32, width: i32) -> (i32, i32) {
+        let mut argument = vec![0; 20];
+        put(&mut argument, 0, 1);
+        put_signed(&mut argument, 4, left);
+        put_signed(&mut argument, 12, width);
+        put_signed(&mut argument, 16, 10);
+        assert_eq!(self.device.request(S_CROP, &mut argument), 0);
+        let kept = self.done(G_CROP, &[(0, 1)]);
+        (signed(&kept, 4), signed(&kept, 12))
+    }
+
+    fn arrive(&mut self, length: usize, fill: u8) -> Arrived {
+        self.device.arrival(&mut self.memory, &vec![fill; length], 7, 8)
+    }
+}
+
+fn figures<R: Recorder>(make: impl Fn() -> R) {
+    widths(Bench::new(make()));
+    packed(Bench::new(make()));
+    planar(Bench::new(make()));
+    crops(Bench::new(make()));
+    contrast(Bench::new(make()));
+    verdicts(Bench::new(make()));
+    numbers(Bench::new(make()));
+}
+
+fn widths<R: Recorder>(mut bench: Bench<R>) {
+    for (wanted, given) in [(300, 304), (296, 288), (0, 160), (u32::MAX, 640)] {
+        let answer = bench.done(TRY_FMT, &[(0, 1), (4, wanted), (8, 224), (12, YUYV)]);
+        assert_eq!(word(&answer, 4), given);
+    }
+}
+
+fn packed<R: Recorder>(mut bench: Bench<R>) {
+    let answer = bench.format(YUYV, 304, 224);
+    assert_eq!((word(&answer, 20), word(&answer, 24)), (640, 143_360));
+    assert_eq!(bench.buffers(10), 7);
+    let status = bench.done(QUERYBUF, &[(0, 6), (4, 1)]);
+    assert_eq!((word(&status, 52), word(&status, 56)), (6 * 143_360, 143_360));
+    assert_eq!(bench.device.plane(143_360, 0), Plane { number: 0, start: 0, length: 143_360 });
+    assert_eq!(bench.device.plane(143_360, 1).number, 22);
+}
+
+fn planar<R: Recorder>(mut bench: Bench<R>) {
+    let answer = bench.format(YU12, 304, 224);
+    assert_eq!((word(&answer, 20), word(&answer, 24)), (320, 107_520));
+    for (plane, start, length) in [(0, 0, 71_680), (1, 71_680, 17_920), (2, 89_600, 17_920)] {
+        assert_eq!(bench.device.plane(107_520, plane), Plane { number: 0, start, length });
+    }
+    assert_eq!(bench.buffers(10), 9);
+    let status = bench.done(QUERYBUF, &[(0, 1), (4, 1)]);
+    assert_eq!(word(&status, 52), 110_592);
+}
+
+fn crops<R: Recorder>(mut bench: Bench<R>) {
+    assert_eq!(bench.crop(100, 608), (24, 608));
+    assert_eq!(bench.crop(i32::MIN, 608), (-8, 608));
+    assert_eq!(bench.crop(-5, 608), (-5, 608));
+    assert_eq!(bench.crop(0, 0).1, 1);
+}
+
+fn contrast<R: Recorder>(mut bench: Bench<R>) {
+    for (wanted, given) in [(-8, -10), (0, -2)] {
+        let answer = bench.done(S_CTRL, &[(0, 0x0098_0901), (4, wanted as u32)]);
+        assert_eq!(signed(&answer, 4), given);
+    }
+    assert_eq!(bench.request(S_CTRL, &[(0, 0x0098_0901), (4, 11)]).0, 34);
+}
+
+fn verdicts<R: Recorder>(mut bench: Bench<R>) {
+    let size = word(&bench.format(YUYV, 304, 224), 24) as usize;
+    bench.buffers(3);
+    assert_eq!(bench.device.verdict(), BLANK);
+
+    bench.done(STREAMON, &[(0, 1)]);
+    assert_eq!(bench.device.verdict(), RUNNING);
+    bench.done(STREAMOFF, &[(0, 1)]);
+    assert_eq!(bench.device.verdict(), BLANK);
+
+    bench.queue(1);
+    bench.done(STREAMON, &[(0, 1)]);
+    assert_eq!(bench.arrive(size, 9), Arrived { answer: STORED, number: 0, buffer: 1 });
+    let handed = bench.dequeue();
+    assert_eq!((word(&handed, 0), word(&handed, 8), signed(&handed, 20), signed(&handed, 24)), (1, 143_360, 7, 8));
+    let from = word(&handed, 52) as usize;
+    assert!(bench.memory[from..from + size].iter().all(|byte| *byte == 9));
+    bench.done(STREAMOFF, &[(0, 1)]);
+    assert_eq!(bench.device.verdict(), COMPLETE);
+
+    bench.queue(1);
+    bench.done(STREAMON, &[(0, 1)]);
+    assert_eq!(bench.arrive(size, 5).answer, STORED);
+    bench.done(STREAMOFF, &[(0, 1)]);
+    assert_eq!(bench.device.verdict(), BLANK);
+}
+
+fn numbers<R: Recorder>(mut bench: Bench<R>) {
+    let size = word(&bench.format(YUYV, 304, 224), 24) as usize;
+    bench.buffers(3);
+    bench.queue(2);
+    assert_eq!(bench.arrive(size, 1).answer, IGNORED);
+    bench.done(STREAMON, &[(0, 1)]);
+    assert_eq!(bench.arrive(size - 1, 1), Arrived { answer: DAMAGED, number: 0, buffer: 0 });
+    assert_eq!(bench.arrive(size, 1), Arrived { answer: STORED, number: 1, buffer: 2 });
+    assert_eq!(bench.arrive(size, 1).answer, DROPPED);
+    assert_eq!(word(&bench.dequeue(), 44), 1);
+    bench.done(STREAMOFF, &[(0, 1)]);
+    assert_eq!(bench.device.verdict(), GAPS);
+}
+
+#[test]
+fn the_model_gives_the_bench_figures() {
+    figures(Device::closed);
+}
+
+#[cfg(feature = "library")]
+#[test]
+fn the_library_gives_the_bench_figures() {
+    figures(tollgutter_tests::ffi::Device::zeroed);
+}
