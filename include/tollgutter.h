@@ -36,31 +36,7 @@ struct tg_filled { /* an outgoing buffer */
     struct tg_time time;
 };
 
-struct tg_queues {
-    uint32_t granted;
-    uint32_t queued;
-    uint32_t done;
-    uint32_t incoming[32];
-    struct tg_filled outgoing[32];
-};
-
-struct tg_run {
-    uint32_t ran;
-    uint64_t accepted;
-    uint64_t handed;
-    uint64_t damaged;
-    uint64_t dropped;
-    uint64_t discarded;
-};
-
-struct tg_stream {
-    uint64_t length;
-    uint32_t streaming;
-    struct tg_run run;
-    struct tg_queues queues;
-};
-
-struct tg_state {
+struct tg_setup {
     uint32_t ready;
     struct {
         uint32_t width;
@@ -73,13 +49,33 @@ struct tg_state {
         int32_t width;
         int32_t height;
     } crop;
-    uint32_t values[32];
-    struct tg_stream stream;
+};
+
+struct tg_tally {
+    uint64_t length;
+    uint64_t streaming;
+    uint64_t ran;
+    uint64_t accepted;
+    uint64_t handed;
+    uint64_t damaged;
+    uint64_t dropped;
+    uint64_t discarded;
+};
+
+struct tg_counts {
+    uint32_t granted;
+    uint32_t queued;
+    uint32_t done;
 };
 
 struct tg_device {
     uint8_t sheet[2688];
-    struct tg_state state;
+    struct tg_setup setup;
+    uint32_t values[32];
+    struct tg_tally tally;
+    struct tg_counts counts;
+    uint32_t incoming[32];
+    struct tg_filled outgoing[32];
 };
 
 /* What an arrival is answered. */

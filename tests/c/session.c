@@ -112,9 +112,12 @@ static void sizes(void)
     expect("sizeof tg_arrived", 12, sizeof(struct tg_arrived));
     expect("sizeof tg_plane", 24, sizeof(struct tg_plane));
     expect("sizeof tg_filled", 20, sizeof(struct tg_filled));
-    expect("offset of state", 2688, offsetof(struct tg_device, state));
-    expect("offset of stream", 160, offsetof(struct tg_state, stream));
-    expect("offset of queues", 64, offsetof(struct tg_stream, queues));
+    expect("offset of setup", 2688, offsetof(struct tg_device, setup));
+    expect("offset of values", 2720, offsetof(struct tg_device, values));
+    expect("offset of tally", 2848, offsetof(struct tg_device, tally));
+    expect("offset of counts", 2912, offsetof(struct tg_device, counts));
+    expect("offset of incoming", 2924, offsetof(struct tg_device, incoming));
+    expect("offset of outgoing", 3052, offsetof(struct tg_device, outgoing));
 }
 
 static void closed(void)
@@ -128,14 +131,14 @@ static void closed(void)
     expect("all zero: arrival", 22, tg_arrival(&zero, memory, 0, frame, 0, 0, 0).number);
     expect("bad sheet", 22, tg_open(&box.device, memory, sizeof memory, MEMORY));
     expect("bad sheet: sheet", 0, (uint64_t)memcmp(box.device.sheet, zero.sheet, sizeof zero.sheet));
-    expect("bad sheet: ready", 0, box.device.state.ready);
+    expect("bad sheet: ready", 0, box.device.setup.ready);
     expect("bad sheet: closed", 22, tg_request(&box.device, calls[QUERYCAP].word, argument, 104));
 }
 
 static void opening(void)
 {
     uint8_t sheet[324], rest[2688 - 324];
-    const struct tg_state *s = &box.device.state;
+    const struct tg_device *s = &box.device;
     size_t length = make_sheet(sheet);
     int i;
     memset(&box, 0xA5, sizeof box);
@@ -143,34 +146,34 @@ static void opening(void)
     expect("open", 0, tg_open(&box.device, sheet, length, MEMORY));
     expect("sheet", 0, (uint64_t)memcmp(box.device.sheet, sheet, length));
     expect("sheet, the rest", 0, (uint64_t)memcmp(box.device.sheet + length, rest, sizeof rest));
-    expect("ready", 1, s->ready);
-    expect("format.width", 640, s->format.width);
-    expect("format.height", 480, s->format.height);
-    expect("format.code", YUYV, s->format.code);
-    expect("crop.left", (uint32_t)-8, (uint32_t)s->crop.left);
-    expect("crop.height", 400, (uint32_t)s->crop.height);
+    expect("ready", 1, s->setup.ready);
+    expect("format.width", 640, s->setup.format.width);
+    expect("format.height", 480, s->setup.format.height);
+    expect("format.code", YUYV, s->setup.format.code);
+    expect("crop.left", (uint32_t)-8, (uint32_t)s->setup.crop.left);
+    expect("crop.height", 400, (uint32_t)s->setup.crop.height);
     expect("values[0]", (uint32_t)-2, s->values[0]);
     for (i = 1; i < 32; i++) expect("values[i]", 0, s->values[i]);
-    expect("stream.length", MEMORY, s->stream.length);
-    expect("stream.streaming", 0, s->stream.streaming);
-    expect("run.ran", 0, s->stream.run.ran);
-    expect("queues.granted", 0, s->stream.queues.granted);
-    expect("outgoing[31].time", 0, (uint32_t)s->stream.queues.outgoing[31].time.microseconds);
+    expect("tally.length", MEMORY, s->tally.length);
+    expect("tally.streaming", 0, s->tally.streaming);
+    expect("tally.ran", 0, s->tally.ran);
+    expect("counts.granted", 0, s->counts.granted);
+    expect("outgoing[31].time", 0, (uint32_t)s->outgoing[31].time.microseconds);
 }
 
 static void settings(void)
 {
-    const struct tg_state *s = &box.device.state;
+    const struct tg_device *s = &box.device;
     expect("S_FMT", 0, simple(S_FMT, 1, WIDTH, HEIGHT, YUYV, 0));
     expect("S_FMT: line", LINE, get(argument + 20));
     expect("S_FMT: image", IMAGE, get(argument + 24));
-    expect("format.width", WIDTH, s->format.width);
-    expect("format.height", HEIGHT, s->format.height);
+    expect("format.width", WIDTH, s->setup.format.width);
+    expect("format.height", HEIGHT, s->setup.format.height);
     expect("S_CROP", 0, simple(S_CROP, 1, 20, 30, 500, 300));
-    expect("crop.left", 20, (uint32_t)s->crop.left);
-    expect("crop.top", 30, (uint32_t)s->crop.top);
-    expect("crop.width", 500, (uint32_t)s->crop.width);
-    expect("crop.height", 300, (uint32_t)s->crop.height);
+    expect("crop.left", 20, (uint32_t)s->setup.crop.left);
+    expect("crop.top", 30, (uint32_t)s->setup.crop.top);
+    expect("crop.width", 500, (uint32_t)s->setup.crop.width);
+    expect("crop.height", 300, (uint32_t)s->setup.crop.height);
     expect("S_CTRL", 0, simple(S_CTRL, CONTRAST, 7, 0, 0, 0));
     expect("values[0]", 6, s->values[0]);
     expect("unknown word", 22, tg_request(&box.device, 0x12345678u, argument, 4));
@@ -179,18 +182,18 @@ static void settings(void)
 
 static void capture(void)
 {
-    const struct tg_stream *s = &box.device.state.stream;
+    const struct tg_device *s = &box.device;
     struct tg_arrived a;
     uint32_t i;
     expect("REQBUFS", 0, simple(REQBUFS, 40, 1, 1, 0, 0));
-    expect("queues.granted", 32, s->queues.granted);
+    expect("counts.granted", 32, s->counts.granted);
     for (i = 0; i < 32; i++) expect("QBUF", 0, buffer(QBUF, 31 - i));
-    expect("queues.queued", 32, s->queues.queued);
-    expect("incoming[0]", 31, s->queues.incoming[0]);
-    expect("incoming[30]", 1, s->queues.incoming[30]);
+    expect("counts.queued", 32, s->counts.queued);
+    expect("incoming[0]", 31, s->incoming[0]);
+    expect("incoming[30]", 1, s->incoming[30]);
     expect("STREAMON", 0, simple(STREAMON, 1, 0, 0, 0, 0));
-    expect("stream.streaming", 1, s->streaming);
-    expect("run.ran", 1, s->run.ran);
+    expect("tally.streaming", 1, s->tally.streaming);
+    expect("tally.ran", 1, s->tally.ran);
     expect("verdict", TG_RUNNING, tg_verdict(&box.device));
     expect("DQBUF", 11, buffer(DQBUF, 0));
     expect("short frame", TG_DAMAGED, arrive(1, IMAGE - 1, 1, 1).answer);
@@ -202,17 +205,17 @@ static void capture(void)
         expect("stored: bytes", i, memory[(32 - i) * SLOT + IMAGE - 1]);
     }
     expect("no buffer", TG_DROPPED, arrive(99, IMAGE, 0, 0).answer);
-    expect("run.accepted", 34, s->run.accepted);
-    expect("run.damaged", 1, s->run.damaged);
-    expect("run.dropped", 1, s->run.dropped);
-    expect("queues.queued", 0, s->queues.queued);
-    expect("queues.done", 32, s->queues.done);
+    expect("tally.accepted", 34, s->tally.accepted);
+    expect("tally.damaged", 1, s->tally.damaged);
+    expect("tally.dropped", 1, s->tally.dropped);
+    expect("counts.queued", 0, s->counts.queued);
+    expect("counts.done", 32, s->counts.done);
     for (i = 0; i < 32; i++) {
-        expect("outgoing.index", 31 - i, s->queues.outgoing[i].index);
-        expect("outgoing.number", i + 1, s->queues.outgoing[i].number);
-        expect("outgoing.used", IMAGE, s->queues.outgoing[i].used);
-        expect("outgoing.seconds", -(uint32_t)(i + 1), (uint32_t)s->queues.outgoing[i].time.seconds);
-        expect("outgoing.microseconds", i + 1, (uint32_t)s->queues.outgoing[i].time.microseconds);
+        expect("outgoing.index", 31 - i, s->outgoing[i].index);
+        expect("outgoing.number", i + 1, s->outgoing[i].number);
+        expect("outgoing.used", IMAGE, s->outgoing[i].used);
+        expect("outgoing.seconds", -(uint32_t)(i + 1), (uint32_t)s->outgoing[i].time.seconds);
+        expect("outgoing.microseconds", i + 1, (uint32_t)s->outgoing[i].time.microseconds);
     }
     expect("DQBUF", 0, buffer(DQBUF, 0));
     expect("DQBUF: index", 31, get(argument));
@@ -221,9 +224,9 @@ static void capture(void)
     expect("DQBUF: number", 1, get(argument + 44));
     expect("DQBUF: offset", 31 * SLOT, get(argument + 52));
     expect("DQBUF: length", SLOT, get(argument + 56));
-    expect("run.handed", 1, s->run.handed);
+    expect("tally.handed", 1, s->tally.handed);
     expect("STREAMOFF", 0, simple(STREAMOFF, 1, 0, 0, 0, 0));
-    expect("run.discarded", 31, s->run.discarded);
+    expect("tally.discarded", 31, s->tally.discarded);
     expect("verdict", TG_GAPS, tg_verdict(&box.device));
     expect("ignored", TG_IGNORED, arrive(1, IMAGE, 0, 0).answer);
     a = tg_arrival(&box.device, memory, sizeof memory - 1, frame, IMAGE, 0, 0);

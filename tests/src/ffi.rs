@@ -7,7 +7,7 @@ use crate::recorder::{Arrived, Plane, Recorder};
 pub const DEVICE_SIZE: usize = 3696;
 
 /// The bytes between the fields of the header's structs and behind them: they hold nothing.
-const PADDING: [(usize, usize); 3] = [(2860, 2864), (2868, 2872), (3692, 3696)];
+const PADDING: [(usize, usize); 1] = [(3692, 3696)];
 
 /// The device as the C interface lays it out; its bytes are the library's own.
 #[repr(C, align(8))]

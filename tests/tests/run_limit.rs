@@ -8,10 +8,10 @@ use tollgutter_tests::ffi::Device;
 use tollgutter_tests::model::words::*;
 use tollgutter_tests::recorder::*;
 
-/// In the header: the sheet, then in the state what comes before the stream, then in the stream the run's counts.
-const STREAM_AT: usize = 2688 + 160;
-const ACCEPTED_AT: usize = STREAM_AT + 16 + 8;
-const DROPPED_AT: usize = ACCEPTED_AT + 24;
+/// In the header: the sheet, the setup, the values of the controls, then the tally, eight numbers of 64 bits.
+const TALLY_AT: usize = 2688 + 32 + 128;
+const ACCEPTED_AT: usize = TALLY_AT + 24;
+const DROPPED_AT: usize = TALLY_AT + 48;
 
 fn count(device: &Device, at: usize) -> u64 {
     u64::from_le_bytes(device.bytes[at..at + 8].try_into().unwrap())

@@ -7,10 +7,10 @@ use borrow.Author.Tests.{leb-true}
 use lib.IntN.{ℤ, pos}
 use lib.Signed.{ltZ}
 use Rattle.buffers.specs.declared.Time.{Time}
-use Rattle.stream.specs.declared.Stream.{Stream}
-use Rattle.stream.specs.Stream.{oneMore}
-use Rattle.arrival.specs.declared.Arrival.the-variants.{Damaged}
-use Rattle.arrival.specs.Arrivals.{answers, withRun, placedOf, acceptedOf}
+use Rattle.buffers.specs.Queues.{Queues, oldestIncoming, filledOldest}
+use Rattle.stream.specs.Stream.{Stream, withQueues}
+use Rattle.arrival.specs.declared.Arrival.the-variants.{Stored}
+use Rattle.arrival.specs.Arrivals.{Arrived, answers, runLimit, withRun, countedRun, placedOf, acceptedOf, arrivalOf}
 use Rattle.arrival.specs.Picture.{wholePicture}
 
 -- v is the number that the code tests: the microseconds, read back from their bits
@@ -32,14 +32,16 @@ pub whole-short : (whole : Bool) (n size : ℕ) → (whole && leb n size) ≡ tr
 whole-short true n size h = leb-true n size h
 whole-short false n size h = absurd (false≢true h)
 
-module _ (s : Stream) (number n : ℕ) (whole : Bool) (size : ℕ) (time : Time) where
-  pub accepted-whole : (whole && leb n size) ≡ true → placedOf s number n time ≡ acceptedOf s number n whole size time
-  unfolding acceptedOf
-  accepted-whole h = simp h
+-- a frame with a buffer that waits for it: q is what the queues become
+pub placed-stored : (s : Stream) (number n : ℕ) (time : Time) → eqb (s .queues .queued) 0 ≡ false → (q : Queues) → q ≡ filledOldest (s .queues) number n time
+    → answers (Stored (oldestIncoming (s .queues)) number) (withQueues s q) ≡ placedOf s number n time
+unfolding placedOf
+placed-stored s number n time h q e = simp (h, e)
 
-  -- d is the count of damaged ones that the code stores
-  pub accepted-damaged : (whole && leb n size) ≡ false → (d : ℕ) → d ≡ oneMore (s .run .damaged)
-      → answers Damaged (withRun s (record { ran = s .run .ran; accepted = s .run .accepted; handed = s .run .handed; damaged = d; dropped = s .run .dropped; discarded = s .run .discarded }))
-      ≡ acceptedOf s number n whole size time
-  unfolding acceptedOf
-  accepted-damaged h d e = simp (h, e)
+-- an arrival that nothing refuses: t is the stream with the arrival counted, r what becomes of it then
+pub arrival-accepted : (s : Stream) (lent n : ℕ) (whole : Bool) (size : ℕ) (time : Time)
+    → eqb lent (s .length) ≡ true → eqb (s .streaming) 0 ≡ false → leb runLimit (s .run .accepted) ≡ false
+    → (t : Stream) → t ≡ withRun s (countedRun (s .run)) → (r : Arrived) → r ≡ acceptedOf t (s .run .accepted) n whole size time
+    → r ≡ arrivalOf s lent n whole size time
+unfolding arrivalOf
+arrival-accepted s lent n whole size time f g h t e r d = simp (f, g, h, d, e)

@@ -8,12 +8,11 @@ use Rattle.ioctl.specs.declared.refusals.Refusal.the-variants.{MemoryLength, Ru
 use Rattle.buffers.specs.declared.Time.{Time}
 use Rattle.buffers.specs.Slot.{slotOffset}
 use Rattle.buffers.specs.Queues.{oldestIncoming, filledOldest}
-use Rattle.stream.specs.declared.Run.{Run}
-use Rattle.stream.specs.declared.Stream.{Stream}
+use Rattle.stream.specs.Stream.{Run}
+use Rattle.stream.specs.Stream.{Stream}
 use Rattle.stream.specs.Stream.{oneMore, streaming, withQueues}
 use Rattle.arrival.specs.declared.Arrival.{Arrival}
 use Rattle.arrival.specs.declared.Arrival.the-variants.{Refused, Ignored, Damaged, Dropped, Stored}
-use Rattle.arrival.specs.declared.Arrived.{Arrived}
 
 -- how many arrivals a run can number
 abbrev pub runLimit : ℕ
@@ -38,7 +37,11 @@ abbrev pub droppedRun : Run → Run
 droppedRun r =
     record { ran = r .ran; accepted = r .accepted; handed = r .handed; damaged = r .damaged; dropped = oneMore (r .dropped); discarded = r .discarded }
 
--- an answer, and the stream after it
+-- the answer to an arrival, and the stream after it
+pub record Arrived : Type 0 where
+  pub arrival : Arrival
+  pub stream : Stream
+
 abbrev pub answers : Arrival → Stream → Arrived
 answers a s = record { arrival = a; stream = s }
 

@@ -1,3 +1,5 @@
+pub mod Entries
+pub mod Counts
 pub mod Moved
 pub mod Scan
 pub mod Slots

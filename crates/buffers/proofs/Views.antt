@@ -1,6 +1,6 @@
--- The queues seen as lists: what each move of a buffer does to them.
+-- The queues seen as lists: what each move of a buffer does to them. Assumes nothing.
 use mathlib.Core.Path.{_≡_, refl, ap, _∙_}
-use Prim.Native.Nat.{ℕ, zero, suc, _+_, _-_, _≤_, _<_}
+use Prim.Native.Nat.{ℕ, zero, suc, _-_, _≤_, _<_}
 use native.Mathlib.Omega.{arith}
 use native.Mathlib.Numerals.{add-one}
 use borrow.Author.Tests.{lt-ltb, ne-eqb}
@@ -9,8 +9,7 @@ use lib.ListN.{length, getD, take, length-append, length-set, length-take}
 use lib.Seq.{take-suc-set, take-append-le}
 use Rattle.buffers.specs.declared.Time.{Time}
 use Rattle.buffers.specs.declared.Filled.{Filled}
-use Rattle.buffers.specs.declared.Queues.{Queues}
-use Rattle.buffers.specs.Queues.{waiting, holding, noFrame, shift, noBuffers, emptyQueues, pushed, oldestIncoming, oldestOutgoing, filledOldest, popped}
+use Rattle.buffers.specs.Queues.{Queues, waiting, holding, noFrame, shift, noBuffers, emptyQueues, pushed, oldestIncoming, oldestOutgoing, filledOldest, popped}
 
 -- n buffers are granted, and the arrays hold these two lists, each in its first places.
 pub record Holds (q : Queues) (n : ℕ) (i : List ℕ) (o : List Filled) : Type 0 where

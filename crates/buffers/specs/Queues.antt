@@ -1,14 +1,39 @@
 -- The two queues of a stream.
-use Prim.Native.Nat.{ℕ, _+_, _-_}
+use Prim.Native.Nat.{ℕ, zero, suc, _+_, _-_}
 use mathlib.Core.Bool.{Bool, cond}
 use mathlib.Core.List.{List, [], _∷_, _++_}
 use lib.Dec.{ltb, eqb}
 use lib.IntN.{pos}
 use lib.ListN.{getD, take, drop, set, replicate}
+use Rattle.wire.specs.Signed.{signed}
 use Rattle.buffers.specs.declared.Time.{Time}
 use Rattle.buffers.specs.declared.Filled.{Filled}
-use Rattle.buffers.specs.declared.Queues.{Queues}
 use Rattle.buffers.specs.Search.{any, first}
+
+-- how many buffers are granted, wait for a frame, hold one; the two queues, each in the first places of its list
+pub record Queues : Type 0 where
+  pub granted : ℕ
+  pub queued : ℕ
+  pub done : ℕ
+  pub incoming : List ℕ
+  pub outgoing : List Filled
+
+-- a time, given by the 32 bits of each number
+abbrev pub timeOf : ℕ → ℕ → Time
+timeOf sec usec = record { seconds = signed sec; microseconds = signed usec }
+
+-- the entry that five words stand for
+abbrev pub wordsEntry : List ℕ → Filled
+wordsEntry w = record { index = getD w 0 0; number = getD w 1 0; used = getD w 2 0; time = timeOf (getD w 3 0) (getD w 4 0) }
+
+-- n entries of five words each
+unfoldable pub entriesOf : ℕ → List ℕ → List Filled
+entriesOf zero w = []
+entriesOf (suc n) w = wordsEntry w ∷ entriesOf n (drop 5 w)
+
+-- the queues in arrays: the counts, the indices, the entries
+abbrev pub queuesOf : List ℕ → List ℕ → List Filled → Queues
+queuesOf c i o = record { granted = getD c 0 0; queued = getD c 1 0; done = getD c 2 0; incoming = i; outgoing = o }
 
 -- the indices of the buffers that wait for a frame, oldest first
 abbrev pub waiting : Queues → List ℕ

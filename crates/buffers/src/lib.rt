@@ -1,13 +1,15 @@
-// The buffers of a stream: their slots in the memory lent, and the two queues that they pass through. Every value of the
-// structs below is answered: a count above 32 counts as 32 when a queue is searched, and a full queue takes no more.
+// The buffers of a stream: their slots in the memory lent, and the two queues that they pass through. The queues stand in arrays of
+// numbers that the caller lends, so that a call changes them in place. Every value of the numbers is answered: a count above 32 counts as
+// 32 when a queue is searched, and a full queue takes no more.
+mod entry;
 mod moves;
 mod search;
-mod shift;
 mod slot;
 
-pub use moves::emptied;
+pub use entry::oldest_outgoing;
+pub use entry::time_of;
+pub use moves::empty;
 pub use moves::fill_oldest;
-pub use moves::no_buffers;
 pub use moves::pop_outgoing;
 pub use moves::push_incoming;
 pub use search::find_outgoing;
@@ -31,18 +33,23 @@ pub struct Filled {
     pub time: Time,
 }
 
-// How many buffers are granted; the `queued` that wait for a frame and the `done` that hold one, each oldest first.
-#[repr(C)]
-pub struct Queues {
-    pub granted: u32,
-    pub queued: u32,
-    pub done: u32,
-    pub incoming: [u32; 32],
-    pub outgoing: [Filled; 32],
-}
-
 // The outgoing entry of a buffer, if there is one.
 pub struct Found {
     pub present: bool,
     pub entry: Filled,
 }
+
+// How many buffers are granted, how many wait for a frame, how many hold one.
+pub type Counts = [u32; 3];
+
+pub const GRANTED: usize = 0;
+
+pub const QUEUED: usize = 1;
+
+pub const DONE: usize = 2;
+
+// The indices of the buffers that wait for a frame, oldest first.
+pub type Indices = [u32; 32];
+
+// The entries of the buffers that hold one, oldest first: index, number, bytes used, and the bits of seconds and microseconds of each.
+pub type Entries = [u32; 160];

@@ -1,22 +1,30 @@
-// Whether a buffer is in a queue.
+// Whether a buffer is in a queue. An array is read as a slice where the proof has to know its length, or that a number fits.
 ghost use mathlib.Core.Path.{_≡_};
-ghost use Rattle.buffers.specs.Queues.{isIncoming, isOutgoing, entryOf};
-use crate::Filled;
+ghost use mathlib.Core.List.{List};
+ghost use Prim.Native.Nat.{ℕ};
+ghost use Rattle.buffers.specs.declared.Filled.{Filled};
+ghost use Rattle.buffers.specs.Queues.{isIncoming, isOutgoing, entryOf, queuesOf, entriesOf};
+use crate::Counts;
+use crate::DONE;
+use crate::Entries;
 use crate::Found;
-use crate::Queues;
+use crate::Indices;
+use crate::QUEUED;
+use crate::entry;
 
 // Whether buffer k waits for a frame.
-pub fn is_incoming(q: Queues, k: u32) -> bool
-    ensures { λ r. ⌜ r ≡ isIncoming q k ⌝ }
+pub fn is_incoming(counts: &Counts, incoming: &Indices, k: u32) -> bool
+    ensures { λ r. ⌜ ((o : List Filled) → r ≡ isIncoming (queuesOf (now (counts .entry)) (now (incoming .entry)) o) k) ⌝ }
 {
-    let a = q.incoming;
-    let n = q.queued as usize;
+    let numbers: &[u32] = counts;
+    let n = numbers[QUEUED] as usize;
+    let words: &[u32] = incoming;
     let mut i: usize = 0;
     while i < 32 {
         if n <= i {
             return false;
         }
-        if a[i] == k {
+        if words[i] == k {
             return true;
         }
         i += 1;
@@ -25,23 +33,23 @@ pub fn is_incoming(q: Queues, k: u32) -> bool
 }
 
 // The entry of buffer k, if it holds a frame.
-pub fn find_outgoing(q: Queues, k: u32) -> Found
-    ensures { λ r. ⌜ r .present ≡ isOutgoing q k ⌝ }
-    ensures { λ r. ⌜ r .entry ≡ entryOf q k ⌝ }
+pub fn find_outgoing(counts: &Counts, outgoing: &Entries, k: u32) -> Found
+    ensures { λ r. ⌜ ((i : List ℕ) → (r .present ≡ isOutgoing (queuesOf (now (counts .entry)) i (entriesOf 32 (now (outgoing .entry)))) k)
+        × (r .entry ≡ entryOf (queuesOf (now (counts .entry)) i (entriesOf 32 (now (outgoing .entry)))) k)) ⌝ }
 {
-    let a = q.outgoing;
-    let n = q.done as usize;
+    let numbers: &[u32] = counts;
+    let n = numbers[DONE] as usize;
     let mut i: usize = 0;
     while i < 32 {
         if n <= i {
-            let none = crate::shift::no_frame();
+            let none = entry::no_frame();
             return Found {
                 present: false,
                 entry: none,
             };
         }
-        let entry = a[i];
-        if entry.index == k {
+        if outgoing[5 * i] == k {
+            let entry = entry::entry_at(outgoing, i);
             return Found {
                 present: true,
                 entry,
@@ -49,7 +57,7 @@ pub fn find_outgoing(q: Queues, k: u32) -> Found
         }
         i += 1;
     }
-    let none = crate::shift::no_frame();
+    let none = entry::no_frame();
     Found {
         present: false,
         entry: none,

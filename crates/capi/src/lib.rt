@@ -1,65 +1,72 @@
 // The device for programs in C: include/tollgutter.h declares the functions that this crate exports. The caller owns the device and
-// lends it to each call, which lends the sheet's copy on and copies the state. A device is numbers only, so that every content of it is one
+// lends it to each call, which lends its arrays on and copies its setup. A device is numbers only, so that every content of it is one
 // that the contracts speak of.
 ghost use mathlib.Core.Path.{_≡_};
+ghost use mathlib.Core.List.{List};
+ghost use Prim.Native.Nat.{ℕ};
 ghost use lib.ListN.{length};
-ghost use Rattle.device.specs.Film.{takenMemory, devicePlace};
-ghost use Rattle.device.specs.Opening.{openedOf};
+ghost use Rattle.buffers.specs.declared.Filled.{Filled};
+ghost use Rattle.buffers.specs.Queues.{entriesOf, timeOf};
+ghost use Rattle.stream.specs.Stream.{streamOf};
+ghost use Rattle.state.specs.State.{stateOf};
+ghost use Rattle.arrival.specs.Answer.{toldOf};
+ghost use Rattle.device.specs.Film.{takenOf, takenMemory, devicePlace};
+ghost use Rattle.device.specs.Opening.{openedOf, wholeOf};
 ghost use Rattle.device.specs.Request.{requestAnswer};
-ghost use Rattle.capi.specs.Calls.{arrived, timeOf, verdictTold};
+ghost use Rattle.capi.specs.Calls.{verdictTold};
 use arrival::Told;
-use buffers::Time;
+use buffers::Counts;
+use buffers::Entries;
+use buffers::Indices;
 use planes::Place;
 use state::Device;
-use state::State;
-
-// What an arrival is answered, in numbers, and the state after it.
-pub struct Arrived {
-    pub told: Told,
-    pub state: State,
-}
-
-// A time from the 32 bits of each of its numbers.
-fn time(seconds: u32, microseconds: u32) -> Time
-    ensures { λ r. ⌜ r ≡ timeOf seconds microseconds ⌝ }
-{
-    Time {
-        seconds: wire::as_signed(seconds),
-        microseconds: wire::as_signed(microseconds),
-    }
-}
+use state::Setup;
+use stream::Tally;
 
 // An arrival, answered in numbers.
 fn arrive(
     sheet: &[u8],
-    s: State,
+    s: Setup,
+    tally: &mut Tally,
+    counts: &mut Counts,
+    incoming: &mut Indices,
+    outgoing: &mut Entries,
     memory: &mut [u8],
     frame: &[u8],
     seconds: u32,
     microseconds: u32,
-) -> Arrived
-    ensures { λ r. ⌜ (r ≡ arrived (now (sheet .entry)) s (length (now (memory .entry))) (length (now (frame .entry))) (timeOf seconds microseconds))
-        × (now (memory .exit) ≡ takenMemory (now (sheet .entry)) s (now (memory .entry)) (now (frame .entry)) (timeOf seconds microseconds)) ⌝ }
+) -> Told
+    ensures { λ r. ⌜ ((v : List ℕ) → (r ≡ toldOf (takenOf (now (sheet .entry)) (stateOf s v (streamOf (now (tally .entry)) (now (counts .entry)) (now (incoming .entry)) (entriesOf 32 (now (outgoing .entry))))) (length (now (memory .entry))) (length (now (frame .entry))) (timeOf seconds microseconds) .arrival))
+        × (stateOf s v (streamOf (now (tally .exit)) (now (counts .exit)) (now (incoming .exit)) (entriesOf 32 (now (outgoing .exit)))) ≡ takenOf (now (sheet .entry)) (stateOf s v (streamOf (now (tally .entry)) (now (counts .entry)) (now (incoming .entry)) (entriesOf 32 (now (outgoing .entry))))) (length (now (memory .entry))) (length (now (frame .entry))) (timeOf seconds microseconds) .state)
+        × (now (memory .exit) ≡ takenMemory (now (sheet .entry)) (stateOf s v (streamOf (now (tally .entry)) (now (counts .entry)) (now (incoming .entry)) (entriesOf 32 (now (outgoing .entry))))) (now (memory .entry)) (now (frame .entry)) (timeOf seconds microseconds))) ⌝ }
 {
-    let t = device::arrive(sheet, s, memory, frame, time(seconds, microseconds));
-    let arrival = t.arrival;
-    let told = arrival::answer_numbers(arrival);
-    let state = t.state;
-    Arrived { told, state }
+    let time = buffers::time_of(seconds, microseconds);
+    let a = device::arrive(
+        sheet,
+        s,
+        tally,
+        counts,
+        incoming,
+        outgoing,
+        memory,
+        frame,
+        time,
+    );
+    arrival::answer_numbers(a)
 }
 
 // The verdict as a number.
-fn verdict(s: State) -> u32
-    ensures { λ r. ⌜ r ≡ verdictTold s ⌝ }
+fn verdict(s: Setup, tally: &Tally) -> u32
+    ensures { λ r. ⌜ ((v c i : List ℕ) (o : List Filled) → r ≡ verdictTold (stateOf s v (streamOf (now (tally .entry)) c i o))) ⌝ }
 {
-    let v = device::verdict_of(s);
+    let v = device::verdict_of(s, tally);
     status::verdict_number(v)
 }
 
 // A device for this sheet and a picture memory of this length; what d held before does not matter.
 #[no_mangle]
 pub extern "C" fn tg_open(d: &mut Device, sheet: &[u8], picture: u64) -> u32
-    ensures { λ r. ⌜ (r ≡ openedOf (now (sheet .entry)) picture .number) × (now (d .exit) ≡ openedOf (now (sheet .entry)) picture .device) ⌝ }
+    ensures { λ r. ⌜ (r ≡ openedOf (now (sheet .entry)) picture .number) × (wholeOf (now (d .exit)) ≡ openedOf (now (sheet .entry)) picture .device) ⌝ }
 {
     let r = device::open_device(sheet, picture);
     *d = r.device;
@@ -69,13 +76,23 @@ pub extern "C" fn tg_open(d: &mut Device, sheet: &[u8], picture: u64) -> u32
 // A request: any word, any argument.
 #[no_mangle]
 pub extern "C" fn tg_request(d: &mut Device, word: u32, argument: &mut [u8]) -> u32
-    ensures { λ r. ⌜ (r ≡ requestAnswer (now (d .entry) .sheet) (now (d .entry) .state) word (now (argument .entry)) .number)
-        × (now (d .exit) .state ≡ requestAnswer (now (d .entry) .sheet) (now (d .entry) .state) word (now (argument .entry)) .state)
+    ensures { λ r. ⌜ (r ≡ requestAnswer (now (d .entry) .sheet) (wholeOf (now (d .entry)) .state) word (now (argument .entry)) .number)
+        × (wholeOf (now (d .exit)) .state ≡ requestAnswer (now (d .entry) .sheet) (wholeOf (now (d .entry)) .state) word (now (argument .entry)) .state)
         × (now (d .exit) .sheet ≡ now (d .entry) .sheet)
-        × (now (argument .exit) ≡ requestAnswer (now (d .entry) .sheet) (now (d .entry) .state) word (now (argument .entry)) .argument) ⌝ }
+        × (now (argument .exit) ≡ requestAnswer (now (d .entry) .sheet) (wholeOf (now (d .entry)) .state) word (now (argument .entry)) .argument) ⌝ }
 {
-    let r = device::request(&d.sheet, d.state, word, argument);
-    d.state = r.state;
+    let r = device::request(
+        &d.sheet,
+        d.setup,
+        &mut d.values,
+        &mut d.tally,
+        &mut d.counts,
+        &mut d.incoming,
+        &mut d.outgoing,
+        word,
+        argument,
+    );
+    d.setup = r.setup;
     r.number
 }
 
@@ -88,28 +105,37 @@ pub extern "C" fn tg_arrival(
     seconds: u32,
     microseconds: u32,
 ) -> Told
-    ensures { λ r. ⌜ (r ≡ arrived (now (d .entry) .sheet) (now (d .entry) .state) (length (now (memory .entry))) (length (now (frame .entry))) (timeOf seconds microseconds) .told)
-        × (now (d .exit) .state ≡ arrived (now (d .entry) .sheet) (now (d .entry) .state) (length (now (memory .entry))) (length (now (frame .entry))) (timeOf seconds microseconds) .state)
+    ensures { λ r. ⌜ (r ≡ toldOf (takenOf (now (d .entry) .sheet) (wholeOf (now (d .entry)) .state) (length (now (memory .entry))) (length (now (frame .entry))) (timeOf seconds microseconds) .arrival))
+        × (wholeOf (now (d .exit)) .state ≡ takenOf (now (d .entry) .sheet) (wholeOf (now (d .entry)) .state) (length (now (memory .entry))) (length (now (frame .entry))) (timeOf seconds microseconds) .state)
         × (now (d .exit) .sheet ≡ now (d .entry) .sheet)
-        × (now (memory .exit) ≡ takenMemory (now (d .entry) .sheet) (now (d .entry) .state) (now (memory .entry)) (now (frame .entry)) (timeOf seconds microseconds)) ⌝ }
+        × (now (memory .exit) ≡ takenMemory (now (d .entry) .sheet) (wholeOf (now (d .entry)) .state) (now (memory .entry)) (now (frame .entry)) (timeOf seconds microseconds)) ⌝ }
 {
-    let r = arrive(&d.sheet, d.state, memory, frame, seconds, microseconds);
-    d.state = r.state;
-    r.told
+    arrive(
+        &d.sheet,
+        d.setup,
+        &mut d.tally,
+        &mut d.counts,
+        &mut d.incoming,
+        &mut d.outgoing,
+        memory,
+        frame,
+        seconds,
+        microseconds,
+    )
 }
 
 // The verdict on the film: 0 RUNNING, 1 BLANK, 2 GAPS, 3 COMPLETE.
 #[no_mangle]
 pub extern "C" fn tg_verdict(d: &Device) -> u32
-    ensures { λ r. ⌜ r ≡ verdictTold (now (d .entry) .state) ⌝ }
+    ensures { λ r. ⌜ r ≡ verdictTold (wholeOf (now (d .entry)) .state) ⌝ }
 {
-    verdict(d.state)
+    verdict(d.setup, &d.tally)
 }
 
 // Where a plane of a frame of so many bytes lies.
 #[no_mangle]
 pub extern "C" fn tg_plane(d: &Device, bytes: usize, plane: u32) -> Place
-    ensures { λ r. ⌜ r ≡ devicePlace (now (d .entry) .sheet) (now (d .entry) .state) bytes plane ⌝ }
+    ensures { λ r. ⌜ r ≡ devicePlace (now (d .entry) .sheet) (wholeOf (now (d .entry)) .state) bytes plane ⌝ }
 {
-    device::plane_place(&d.sheet, d.state, bytes, plane)
+    device::plane_place(&d.sheet, d.setup, bytes, plane)
 }

@@ -9,21 +9,21 @@ use lib.ListN.{length}
 use Rattle.ioctl.specs.declared.refusals.Refusal.the-variants.{MemoryLength, Closed, BadSheet, MemoryTooLong, NoSuchPlane, RunFull}
 use Rattle.sheet.specs.Rules.{goodSheet}
 use Rattle.buffers.specs.declared.Time.{Time}
-use Rattle.stream.specs.declared.Stream.{Stream}
+use Rattle.stream.specs.Stream.{Stream}
 use Rattle.stream.specs.Stream.{streaming}
 use Rattle.arrival.specs.declared.Arrival.{Arrival}
 use Rattle.arrival.specs.declared.Arrival.the-variants as arrivals
-use Rattle.arrival.specs.declared.Arrived.{Arrived}
+use Rattle.arrival.specs.Arrivals.{Arrived}
 use Rattle.arrival.specs.Arrivals.{runLimit, answers, withRun, countedRun, placedOf, acceptedOf, arrivalOf, writtenBy}
 use Rattle.arrival.specs.Picture.{wholePicture}
-use Rattle.state.specs.declared.State.{State}
+use Rattle.state.specs.State.{State}
 use Rattle.fields.specs.Copy.{keptOf}
 use Rattle.state.specs.State.{closedState, openingState, frameSize, withStream}
 use Rattle.geometry.specs.Geometry.{lineAlignment}
 use Rattle.planes.specs.declared.Place.{Place}
 use Rattle.planes.specs.Planes.{planeRefused, planeStart, planeLength, noPlace, placeOf}
-use Rattle.device.specs.declared.Opened.{Opened}
-use Rattle.device.specs.declared.Taken.{Taken}
+use Rattle.device.specs.Opening.{Opened}
+use Rattle.device.specs.Film.{Taken}
 use Rattle.device.specs.Opening.{longestMemory, closedBy, openedOf}
 use Rattle.device.specs.Film.{pictureArrives, takenOf, takenMemory, devicePlace}
 use Rattle.claims.specs.Refusals.{check, firstNumber}

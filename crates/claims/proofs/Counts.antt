@@ -3,13 +3,13 @@ use mathlib.Core.Path.{_≡_, refl, sym, ap, _∙_}
 use Prim.Native.Nat.{ℕ, _+_, _*_, _≤_}
 use native.Mathlib.Omega.{arith}
 use lib.ListN.{length}
-use Rattle.buffers.specs.declared.Queues.{Queues}
+use Rattle.buffers.specs.Queues.{Queues}
 use Rattle.buffers.specs.Search.{any}
 use Rattle.buffers.specs.Queues.{noBuffers, isIncoming, isOutgoing}
-use Rattle.stream.specs.declared.Run.{Run}
+use Rattle.stream.specs.Stream.{Run}
 use Rattle.stream.specs.Stream.{freshStream}
 use Rattle.status.specs.Buffer.{flagsOf}
-use Rattle.state.specs.declared.State.{State}
+use Rattle.state.specs.State.{State}
 use Rattle.state.specs.State.{closedState}
 use Rattle.history.specs.Paper.{Paper, blank}
 use Rattle.history.specs.Claims.{timesIn, timesOut}

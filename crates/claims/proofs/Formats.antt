@@ -20,7 +20,7 @@ use Rattle.format.specs.declared.Format.{Format}
 use Rattle.negotiation.specs.Negotiation.{negotiated, askedFormat}
 use Rattle.negotiation.specs.Answer.{formatReply}
 use Rattle.negotiation.proofs.Reply.{reply-length}
-use Rattle.state.specs.declared.State.{State}
+use Rattle.state.specs.State.{State}
 use Rattle.state.specs.State.{withFormat}
 use Rattle.state.specs.Answers.{Answer, done, refused}
 use Rattle.settings.specs.Settings.{gFmtOf, sFmtOf, tryFmtOf}

@@ -22,7 +22,7 @@ use Rattle.control.specs.declared.Reading.{Reading}
 use Rattle.control.specs.declared.Reading.the-variants as reads
 use Rattle.control.specs.declared.Setting.{Setting}
 use Rattle.control.specs.declared.Setting.the-variants as settings
-use Rattle.stream.specs.declared.Step.{Step}
+use Rattle.stream.specs.Calls.{Step}
 use Rattle.stream.specs.Calls.{requestOf as bufferRequest, enqueueOf, dequeueOf, startOf}
 use Rattle.stream.specs.Numbers.{replyNumber}
 use Rattle.status.specs.declared.Queried.{Queried}
@@ -32,7 +32,7 @@ use Rattle.buffers.specs.Queues.{oldestOutgoing}
 use Rattle.negotiation.specs.Negotiation.{negotiated, askedFormat}
 use Rattle.negotiation.specs.Answer.{formatReply}
 use Rattle.replies.specs.Replies.{capabilityReply, descriptionReply, buffersReply, bufferReply, controlReply, valueReply, cropReply, cropCapabilityReply}
-use Rattle.state.specs.declared.State.{State}
+use Rattle.state.specs.State.{State}
 use Rattle.state.specs.State.{frameSize, withFormat, withValues, withStream}
 use Rattle.state.specs.Answers.{Answer, done, refusedWith, refused}
 use Rattle.settings.specs.Settings.{querycapOf, enumFmtOf, gFmtOf, sFmtOf, tryFmtOf, cropcapOf, gCropOf, sCropOf}

@@ -14,11 +14,11 @@ use Rattle.buffers.specs.declared.Time.{Time}
 use Rattle.buffers.specs.Slot.{slotOffset}
 use Rattle.arrival.specs.declared.Arrival.{Arrival}
 use Rattle.arrival.specs.declared.Arrival.the-variants as arrivals
-use Rattle.arrival.specs.declared.Arrived.{Arrived}
+use Rattle.arrival.specs.Arrivals.{Arrived}
 use Rattle.arrival.specs.Arrivals.{writtenBy}
 use Rattle.arrival.specs.Picture.{inSecond, wholePicture}
 use Rattle.state.specs.State.{frameSize}
-use Rattle.device.specs.declared.Taken.{Taken}
+use Rattle.device.specs.Film.{Taken}
 use Rattle.device.specs.Film.{pictureArrives, takenOf, takenMemory}
 use Rattle.history.specs.Calls.{World}
 use Rattle.history.specs.Calls.Call.{arrival as comes}

@@ -17,9 +17,9 @@ use Rattle.sheet.specs.Rules.{goodSheet}
 use Rattle.sheet.proofs.Good.{fits-copy}
 use Rattle.format.specs.declared.Format.{Format}
 use Rattle.negotiation.specs.Negotiation.{openingFormat}
-use Rattle.state.specs.declared.State.{State}
+use Rattle.state.specs.State.{State}
 use Rattle.state.specs.State.{closedState, openingState, frameSize}
-use Rattle.device.specs.declared.Opened.{Opened}
+use Rattle.device.specs.Opening.{Opened}
 use Rattle.device.specs.Opening.{longestMemory, closedBy, openedOf}
 use Rattle.device.specs.Request.{requestAnswer}
 use Rattle.device.specs.Film.{takenOf}

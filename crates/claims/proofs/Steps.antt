@@ -30,8 +30,8 @@ use Rattle.buffers.specs.declared.Filled.{Filled}
 use Rattle.buffers.specs.Queues.{oldestOutgoing, emptyQueues}
 use Rattle.stream.specs.declared.Reply.{Reply as StreamReply}
 use Rattle.stream.specs.declared.Reply.the-variants as replies
-use Rattle.stream.specs.declared.Step.{Step}
-use Rattle.stream.specs.declared.Stream.{Stream}
+use Rattle.stream.specs.Calls.{Step}
+use Rattle.stream.specs.Stream.{Stream}
 use Rattle.stream.specs.Stream.{streaming, stopped}
 use Rattle.stream.specs.Calls.{answers, refuses, grantOf, requestOf as bufferRequest, enqueueOf, dequeueOf, startOf, stopOf}
 use Rattle.stream.specs.Numbers.{replyNumber}
@@ -48,7 +48,7 @@ use Rattle.control.specs.declared.Setting.{Setting}
 use Rattle.control.specs.declared.Setting.the-variants as settings
 use Rattle.replies.specs.Replies.{buffersReply, bufferReply}
 use Rattle.replies.proofs.Words.{buffers-length, buffer-length, buffers-count}
-use Rattle.state.specs.declared.State.{State}
+use Rattle.state.specs.State.{State}
 use Rattle.state.specs.State.{frameSize, withFormat, withStream}
 use Rattle.state.specs.Answers.{Answer, done, refusedWith, refused}
 use Rattle.settings.specs.Settings.{querycapOf, enumFmtOf, gFmtOf, sFmtOf, tryFmtOf, cropcapOf, gCropOf, sCropOf}

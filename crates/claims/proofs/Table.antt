@@ -26,8 +26,8 @@ use Rattle.control.specs.declared.Reading.the-variants as reads
 use Rattle.control.specs.declared.Setting.{Setting}
 use Rattle.control.specs.declared.Setting.the-variants as settings
 use Rattle.buffers.specs.Queues.{isIncoming, isOutgoing, oldestOutgoing}
-use Rattle.stream.specs.declared.Step.{Step}
-use Rattle.stream.specs.declared.Stream.{Stream}
+use Rattle.stream.specs.Calls.{Step}
+use Rattle.stream.specs.Stream.{Stream}
 use Rattle.stream.specs.Stream.{streaming}
 use Rattle.stream.specs.Calls.{requestOf as bufferRequest, enqueueOf, dequeueOf, startOf}
 use Rattle.stream.specs.Numbers.{replyNumber}
@@ -36,7 +36,7 @@ use Rattle.status.specs.declared.Queried.the-variants as queries
 use Rattle.status.specs.Buffer.{statusOf, queryOf, returnedOf}
 use Rattle.replies.specs.Replies.{buffersReply, bufferReply}
 use lib.Seq.{sets}
-use Rattle.state.specs.declared.State.{State}
+use Rattle.state.specs.State.{State}
 use Rattle.state.specs.State.{frameSize, withStream}
 use Rattle.state.specs.Answers.{Answer, done, refusedWith, refused}
 use Rattle.settings.specs.Settings.{querycapOf, enumFmtOf, gFmtOf, sFmtOf, tryFmtOf, cropcapOf, gCropOf, sCropOf}

@@ -7,9 +7,9 @@ use lib.ListN.{length}
 use Rattle.wire.specs.Signed.{signed}
 use Rattle.buffers.specs.declared.Time.{Time}
 use Rattle.arrival.specs.declared.Arrival.{Arrival}
-use Rattle.state.specs.declared.State.{State}
+use Rattle.state.specs.State.{State}
 use Rattle.state.specs.Answers.{Answer}
-use Rattle.device.specs.declared.Taken.{Taken}
+use Rattle.device.specs.Film.{Taken}
 use Rattle.device.specs.Opening.{openedOf}
 use Rattle.device.specs.Request.{requestAnswer}
 use Rattle.device.specs.Film.{takenOf, takenMemory}

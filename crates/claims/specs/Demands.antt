@@ -21,9 +21,9 @@ use Rattle.arrival.specs.declared.Arrival.the-variants as arrivals
 use Rattle.arrival.specs.Arrivals.{runLimit}
 use Rattle.status.specs.Buffer.{flagsOf}
 use Rattle.status.specs.declared.Verdict.the-variants.{Running, Blank, Gaps, Complete}
-use Rattle.state.specs.declared.State.{State}
-use Rattle.device.specs.declared.Opened.{Opened}
-use Rattle.device.specs.declared.Taken.{Taken}
+use Rattle.state.specs.State.{State}
+use Rattle.device.specs.Opening.{Opened}
+use Rattle.device.specs.Film.{Taken}
 use Rattle.device.specs.Opening.{longestMemory, openedOf}
 use Rattle.device.specs.Request.{requestAnswer}
 use Rattle.device.specs.Film.{takenOf, takenMemory, deviceVerdict, devicePlace}

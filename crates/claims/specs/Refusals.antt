@@ -19,7 +19,7 @@ use Rattle.fields.specs.declared.Control.{Control}
 use Rattle.control.specs.Find.{present, placeOf, queriedPlace}
 use Rattle.buffers.specs.Queues.{isIncoming, isOutgoing}
 use Rattle.stream.specs.Stream.{streaming}
-use Rattle.state.specs.declared.State.{State}
+use Rattle.state.specs.State.{State}
 
 -- A test, and the reason that is given where it holds.
 pub record Check : Type 0 where

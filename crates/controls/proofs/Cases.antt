@@ -2,18 +2,18 @@
 use Prim.Native.Nat.{ℕ}
 use mathlib.Core.List.{List}
 use mathlib.Core.Path.{_≡_, sym, ap, _∙_}
+use lib.ListN.{set}
 use lib.Seq.{sets}
 use Rattle.wire.specs.Words.{wordAt}
 use Rattle.ioctl.specs.Refusal.{errnoOf}
 use Rattle.ioctl.specs.declared.refusals.Refusal.{Refusal}
-use Rattle.control.specs.Values.{reading, settingOf, storedValues}
+use Rattle.control.specs.Values.{reading, settingOf}
 use Rattle.control.specs.declared.Reading.{Reading}
 use Rattle.control.specs.declared.Reading.the-variants as reads
 use Rattle.control.specs.declared.Setting.{Setting}
 use Rattle.control.specs.declared.Setting.the-variants as settings
 use Rattle.replies.specs.Replies.{valueReply}
-use Rattle.state.specs.declared.State.{State}
-use Rattle.state.specs.State.{withValues}
+use Rattle.state.specs.State.{State, withValues}
 use Rattle.state.specs.Answers.{done, refusedWith}
 use Rattle.controls.specs.Controls.{readAs, gCtrlOf, setAs, sCtrlOf}
 
@@ -40,8 +40,7 @@ module _ (s : List ℕ) (d : State) (a : List ℕ) {id w : ℕ} {x : Setting} (i
   s-ctrl-by = rw (e, i, j)
 
   -- a value is kept and shown
-  pub set-stored : (k v : ℕ) {vs : List ℕ} → x ≡ settings.Stored k v → vs ≡ storedValues (d .values) (settings.Stored k v) → done (withValues d vs) (sets a 0 (valueReply id v)) ≡ sCtrlOf s d a
-  unfolding storedValues
+  pub set-stored : (k v : ℕ) {vs : List ℕ} → x ≡ settings.Stored k v → vs ≡ set (d .values) k v → done (withValues d vs) (sets a 0 (valueReply id v)) ≡ sCtrlOf s d a
   set-stored k v h q = rw q (ap (λ (y : Setting). setAs y id d a) (sym h) ∙ s-ctrl-by)
 
   -- a button changes nothing

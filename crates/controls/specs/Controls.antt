@@ -14,8 +14,7 @@ use Rattle.control.specs.declared.Reading.the-variants as reads
 use Rattle.control.specs.declared.Setting.{Setting}
 use Rattle.control.specs.declared.Setting.the-variants as settings
 use Rattle.replies.specs.Replies.{controlReply, valueReply}
-use Rattle.state.specs.declared.State.{State}
-use Rattle.state.specs.State.{withValues}
+use Rattle.state.specs.State.{State, withValues}
 use Rattle.state.specs.Answers.{Answer, done, refused}
 
 -- QUERYCTRL: an id that is there, or with bit 31 the next higher one

@@ -1,76 +1,67 @@
 // The requests about controls. Each takes an argument of the length that its word says, and answers any other as far as it reaches.
 ghost use mathlib.Core.Path.{_≡_};
-ghost use Rattle.state.specs.Answers.{answerOf};
+ghost use lib.ListN.{set};
+ghost use Rattle.stream.specs.Stream.{Stream};
+ghost use Rattle.state.specs.declared.Setup.{Setup};
+ghost use Rattle.state.specs.State.{State, stateOf};
+ghost use Rattle.state.specs.Answers.{answer};
 ghost use Rattle.controls.specs.Controls.{queryctrlOf, gCtrlOf, sCtrlOf};
 use control::Reading;
 use control::Setting;
+use control::Values;
 use ioctl::Refusal;
-use state::Answered;
-use state::State;
 
 // The control of an id, or with bit 31 the one of the next higher id.
-pub fn queryctrl(sheet: &[u8], s: State, argument: &mut [u8]) -> Answered
-    ensures { λ r. ⌜ answerOf r (now (argument .exit)) ≡ queryctrlOf (now (sheet .entry)) s (now (argument .entry)) ⌝ }
+pub fn queryctrl(sheet: &[u8], argument: &mut [u8]) -> u32
+    ensures { λ r. ⌜ ((d : State) → answer r d (now (argument .exit)) ≡ queryctrlOf (now (sheet .entry)) d (now (argument .entry))) ⌝ }
 {
     let k = control::queried(sheet, wire::word_at(argument, 0));
     if control::count(sheet) <= k {
-        let number = ioctl::errno(Refusal::NoSuchControl);
-        return Answered { number, state: s };
+        return ioctl::errno(Refusal::NoSuchControl);
     }
     replies::put_control(argument, sheet, k);
-    Answered {
-        number: 0,
-        state: s,
-    }
+    0
 }
 
 // The value of a control.
-pub fn g_ctrl(sheet: &[u8], s: State, argument: &mut [u8]) -> Answered
-    ensures { λ r. ⌜ answerOf r (now (argument .exit)) ≡ gCtrlOf (now (sheet .entry)) s (now (argument .entry)) ⌝ }
+pub fn g_ctrl(sheet: &[u8], values: &Values, argument: &mut [u8]) -> u32
+    ensures { λ r. ⌜ ((p : Setup) (t : Stream) → answer r (stateOf p (now (values .entry)) t) (now (argument .exit)) ≡ gCtrlOf (now (sheet .entry)) (stateOf p (now (values .entry)) t) (now (argument .entry))) ⌝ }
 {
     let id = wire::word_at(argument, 0);
-    let values = s.values;
-    let reading = control::read(sheet, values, id);
+    let copy = *values;
+    let reading = control::read(sheet, copy, id);
     match reading {
         Reading::Value(v) => {
             replies::put_value(argument, id, v);
-            Answered {
-                number: 0,
-                state: s,
-            }
+            0
         }
-        Reading::Refused(why) => {
-            let number = ioctl::errno(why);
-            Answered { number, state: s }
-        }
+        Reading::Refused(why) => ioctl::errno(why),
+    }
+}
+
+// A value kept for control k. Past the last place nothing is kept.
+fn keep(values: &mut [u32], k: u32, v: u32)
+    ensures { λ _. ⌜ now (values .exit) ≡ set (now (values .entry)) k v ⌝ }
+{
+    let at = k as usize;
+    if at < values.len() {
+        values[at] = v;
     }
 }
 
 // Another value for a control. A button leaves the argument.
-pub fn s_ctrl(sheet: &[u8], s: State, argument: &mut [u8]) -> Answered
-    ensures { λ r. ⌜ answerOf r (now (argument .exit)) ≡ sCtrlOf (now (sheet .entry)) s (now (argument .entry)) ⌝ }
+pub fn s_ctrl(sheet: &[u8], values: &mut Values, argument: &mut [u8]) -> u32
+    ensures { λ r. ⌜ ((p : Setup) (t : Stream) → answer r (stateOf p (now (values .exit)) t) (now (argument .exit)) ≡ sCtrlOf (now (sheet .entry)) (stateOf p (now (values .entry)) t) (now (argument .entry))) ⌝ }
 {
     let id = wire::word_at(argument, 0);
     let setting = control::set(sheet, id, wire::word_at(argument, 4));
     match setting {
         Setting::Stored(k, v) => {
-            let before = s.values;
-            let values = control::stored(before, Setting::Stored(k, v));
+            keep(values, k, v);
             replies::put_value(argument, id, v);
-            let mut n = s;
-            n.values = values;
-            Answered {
-                number: 0,
-                state: n,
-            }
+            0
         }
-        Setting::Pressed => Answered {
-            number: 0,
-            state: s,
-        },
-        Setting::Refused(why) => {
-            let number = ioctl::errno(why);
-            Answered { number, state: s }
-        }
+        Setting::Pressed => 0,
+        Setting::Refused(why) => ioctl::errno(why),
     }
 }

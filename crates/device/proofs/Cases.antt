@@ -16,11 +16,9 @@ use Rattle.sheet.specs.Rules.{goodSheet}
 use Rattle.planes.specs.declared.Place.{Place}
 use Rattle.planes.specs.Planes.{placeOf}
 use Rattle.arrival.specs.declared.Arrival.the-variants.{Refused}
-use Rattle.arrival.specs.declared.Arrived.{Arrived}
-use Rattle.arrival.specs.Arrivals.{arrivalOf, writtenBy}
+use Rattle.arrival.specs.Arrivals.{Arrived, arrivalOf, writtenBy}
 use Rattle.arrival.specs.Picture.{wholePicture}
-use Rattle.state.specs.declared.State.{State}
-use Rattle.state.specs.State.{frameSize, withStream, openingState}
+use Rattle.state.specs.State.{State, frameSize, withStream, openingState}
 use Rattle.state.specs.Answers.{Answer, refusedWith}
 use Rattle.device.specs.Film.{takenOf, takenMemory, devicePlace}
 use Rattle.device.specs.Opening.{closedBy, openedOf, longestMemory}

@@ -10,15 +10,22 @@ use Rattle.geometry.specs.Geometry.{lineAlignment}
 use Rattle.planes.specs.declared.Place.{Place}
 use Rattle.planes.specs.Planes.{noPlace, placeOf, partAt}
 use Rattle.arrival.specs.declared.Arrival.the-variants.{Refused}
-use Rattle.arrival.specs.declared.Arrived.{Arrived}
-use Rattle.arrival.specs.Arrivals.{arrivalOf, writtenBy}
+use Rattle.arrival.specs.declared.Arrival.{Arrival}
+use Rattle.arrival.specs.Arrivals.{Arrived, arrivalOf, writtenBy}
 use Rattle.arrival.specs.Picture.{wholePicture}
 use Rattle.status.specs.declared.Verdict.{Verdict}
 use Rattle.status.specs.declared.Verdict.the-variants.{Blank}
 use Rattle.status.specs.Film.{verdictOf}
-use Rattle.state.specs.declared.State.{State}
+use Rattle.state.specs.State.{State}
 use Rattle.state.specs.State.{frameSize, withStream}
-use Rattle.device.specs.declared.Taken.{Taken}
+
+-- the answer to an arrival, and the state after it
+pub record Taken : Type 0 where
+  pub arrival : Arrival
+  pub state : State
+
+abbrev pub taken : Arrival → State → Taken
+taken a d = record { arrival = a; state = d }
 
 -- a picture arrives at the stream: whole if it has the image size and its microseconds are in 0..999,999
 abbrev pub pictureArrives : List ℕ → State → ℕ → ℕ → Time → Arrived
@@ -27,8 +34,8 @@ pictureArrives s d lent n t = arrivalOf (d .stream) lent n (wholePicture n (fram
 -- what an arrival of n bytes answers and leaves
 unfoldable pub takenOf : List ℕ → State → ℕ → ℕ → Time → Taken
 takenOf s d lent n t =
-    cond (eqb (d .ready) 0) (record { arrival = Refused Closed; state = d })
-    (record { arrival = pictureArrives s d lent n t .arrival; state = withStream d (pictureArrives s d lent n t .stream) })
+    cond (eqb (d .ready) 0) (taken (Refused Closed) d)
+    (taken (pictureArrives s d lent n t .arrival) (withStream d (pictureArrives s d lent n t .stream)))
 
 -- what it leaves of the memory: only a stored one writes
 unfoldable pub takenMemory : List ℕ → State → List ℕ → List ℕ → Time → List ℕ

@@ -9,8 +9,28 @@ use Rattle.ioctl.specs.declared.refusals.Refusal.{Refusal}
 use Rattle.ioctl.specs.declared.refusals.Refusal.the-variants.{BadSheet, MemoryTooLong}
 use Rattle.fields.specs.Copy.{keptOf}
 use Rattle.sheet.specs.Rules.{goodSheet}
-use Rattle.state.specs.State.{closedState, openingState}
-use Rattle.device.specs.declared.Opened.{Opened}
+use Rattle.buffers.specs.Queues.{entriesOf}
+use Rattle.stream.specs.Stream.{streamOf}
+use Rattle.state.specs.declared.Device.{Device}
+use Rattle.state.specs.State.{State, stateOf, closedState, openingState}
+use Rattle.device.specs.declared.Made.{Made}
+
+-- a device as a whole: the sheet that it keeps, and its state
+pub record Whole : Type 0 where
+  pub sheet : List ℕ
+  pub state : State
+
+-- what an opening gives back, and the device after it
+pub record Opened : Type 0 where
+  pub number : ℕ
+  pub device : Whole
+
+-- the device that stands in these fields
+abbrev pub wholeOf : Device → Whole
+wholeOf d = record { sheet = d .sheet; state = stateOf (d .setup) (d .values) (streamOf (d .tally) (d .counts) (d .incoming) (entriesOf 32 (d .outgoing))) }
+
+abbrev pub madeAs : Made → Opened
+madeAs r = record { number = r .number; device = wholeOf (r .device) }
 
 -- the longest picture memory
 abbrev pub longestMemory : ℕ

@@ -3,7 +3,6 @@ mod film;
 mod opening;
 mod requests;
 
-use arrival::Arrival;
 pub use film::arrive;
 pub use film::plane;
 pub use film::plane_place;
@@ -11,16 +10,9 @@ pub use film::verdict_of;
 pub use opening::open_device;
 pub use requests::request;
 use state::Device;
-use state::State;
 
 // What an opening gives back, and the device that it makes.
-pub struct Opened {
+pub struct Made {
     pub number: u32,
     pub device: Device,
-}
-
-// What an arrival is answered, and the state after it.
-pub struct Taken {
-    pub arrival: Arrival,
-    pub state: State,
 }

@@ -1,7 +1,7 @@
 // Opening.
 ghost use mathlib.Core.Path.{_≡_};
-ghost use Rattle.device.specs.Opening.{closedBy, openedOf};
-use crate::Opened;
+ghost use Rattle.device.specs.Opening.{closedBy, openedOf, madeAs};
+use crate::Made;
 use ioctl::Refusal;
 use state::Device;
 
@@ -9,21 +9,26 @@ use state::Device;
 const LONGEST: u64 = 1073741824;
 
 // A refused opening: its number, and a closed device.
-fn refused(why: Refusal) -> Opened
-    ensures { λ r. ⌜ r ≡ closedBy why ⌝ }
+fn refused(why: Refusal) -> Made
+    ensures { λ r. ⌜ madeAs r ≡ closedBy why ⌝ }
 {
     let number = ioctl::errno(why);
-    let state = state::closed();
+    let setup = state::closed();
     let device = Device {
         sheet: [0; 2688],
-        state,
+        setup,
+        values: [0; 32],
+        tally: [0; 8],
+        counts: [0; 3],
+        incoming: [0; 32],
+        outgoing: [0; 160],
     };
-    Opened { number, device }
+    Made { number, device }
 }
 
 // A device for this sheet and a picture memory of this length.
-pub fn open_device(sheet: &[u8], length: u64) -> Opened
-    ensures { λ r. ⌜ r ≡ openedOf (now (sheet .entry)) length ⌝ }
+pub fn open_device(sheet: &[u8], length: u64) -> Made
+    ensures { λ r. ⌜ madeAs r ≡ openedOf (now (sheet .entry)) length ⌝ }
 {
     if !sheet::good_sheet(sheet) {
         return refused(Refusal::BadSheet);
@@ -32,7 +37,16 @@ pub fn open_device(sheet: &[u8], length: u64) -> Opened
         return refused(Refusal::MemoryTooLong);
     }
     let copy = fields::kept(sheet);
-    let state = state::opening(&copy, length);
-    let device = Device { sheet: copy, state };
-    Opened { number: 0, device }
+    let setup = state::opening(&copy);
+    let values = control::at_opening(&copy);
+    let device = Device {
+        sheet: copy,
+        setup,
+        values,
+        tally: [length, 0, 0, 0, 0, 0, 0, 0],
+        counts: [0; 3],
+        incoming: [0; 32],
+        outgoing: [0; 160],
+    };
+    Made { number: 0, device }
 }

@@ -11,12 +11,12 @@ use Rattle.format.specs.Code.{YUYV, YU12}
 use Rattle.format.specs.Size.{bytesPerLine, imageSize}
 use Rattle.buffers.specs.Slot.{slotSize}
 use Rattle.stream.specs.Calls.{grantOf}
-use Rattle.stream.specs.declared.Stream.{Stream}
+use Rattle.stream.specs.Stream.{Stream}
 use Rattle.wire.specs.Words.{bytesOf}
 use Rattle.fields.specs.Copy.{keptOf}
 use Rattle.status.specs.Film.{verdictNumber}
-use Rattle.state.specs.declared.State.{State}
-use Rattle.device.specs.declared.Opened.{Opened}
+use Rattle.state.specs.State.{State}
+use Rattle.device.specs.Opening.{Opened}
 use Rattle.device.specs.Opening.{openedOf}
 use Rattle.device.specs.Request.{requestAnswer}
 use Rattle.device.specs.Film.{deviceVerdict}

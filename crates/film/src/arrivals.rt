@@ -3,9 +3,10 @@ use crate::pictures;
 use crate::say;
 use arrival::Arrival;
 use buffers::Time;
-use device::Taken;
-use state::State;
+use state::Device;
+use state::Setup;
 use status::Verdict;
+use stream::Tally;
 
 fn told(a: Arrival) {
     match a {
@@ -27,32 +28,51 @@ fn said(bytes: usize, time: Time) {
     say::time(time);
 }
 
-// Says what an arrival is answered; the device goes on as it leaves it.
-fn after(r: Taken) -> State {
-    let a = r.arrival;
+// A frame arrives at a device: it is said what it is answered, and the device goes on as it leaves it.
+fn taken(d: Device, memory: &mut [u8], frame: &[u8], time: Time) -> Device {
+    let sheet = d.sheet;
+    let mut tally = d.tally;
+    let mut counts = d.counts;
+    let mut incoming = d.incoming;
+    let mut outgoing = d.outgoing;
+    let a = device::arrive(
+        &sheet,
+        d.setup,
+        &mut tally,
+        &mut counts,
+        &mut incoming,
+        &mut outgoing,
+        memory,
+        frame,
+        time,
+    );
     told(a);
     say::letter(b'\n');
-    r.state
+    let mut n = d;
+    n.tally = tally;
+    n.counts = counts;
+    n.incoming = incoming;
+    n.outgoing = outgoing;
+    n
 }
 
 // The first bytes of a picture arrive, made in the space that is lent for it.
 pub(crate) fn arrive(
-    sheet: &[u8],
-    s: State,
+    d: Device,
     memory: &mut [u8],
     space: &mut [u8],
     picture: u32,
     bytes: usize,
-) -> State {
+) -> Device {
     pictures::fill(space, picture);
     let frame = wire::part(space, 0, bytes);
     let time = pictures::time_of(picture);
     said(frame.len(), time);
-    after(device::arrive(sheet, s, memory, frame, time))
+    taken(d, memory, frame, time)
 }
 
-pub(crate) fn verdict(s: State) {
-    let v = device::verdict_of(s);
+pub(crate) fn verdict(s: Setup, tally: &Tally) {
+    let v = device::verdict_of(s, tally);
     match v {
         Verdict::Running => say::text(b"verdict: RUNNING\n"),
         Verdict::Blank => say::text(b"verdict: BLANK\n"),
@@ -62,7 +82,7 @@ pub(crate) fn verdict(s: State) {
 }
 
 // Plane k of a frame whose words tell their own places: so the plane's first word tells where it starts.
-pub(crate) fn plane<'a>(sheet: &'a [u8], s: State, frame: &'a [u8], k: u32) {
+pub(crate) fn plane<'a>(sheet: &'a [u8], s: Setup, frame: &'a [u8], k: u32) {
     let mut number: u32 = 0;
     let part = device::plane(sheet, s, frame, k, &mut number);
     say::number(b"plane ", k);

@@ -4,8 +4,7 @@ ghost use lib.ListN.{length};
 use crate::lines;
 use crate::pictures;
 use crate::say;
-use state::Answered;
-use state::State;
+use state::Device;
 
 // The first words of an argument; the others are 0.
 type Words = [u32; 13];
@@ -76,11 +75,49 @@ fn front(a: &mut [u8], n: usize) -> &mut [u8]
     &mut a[..n]
 }
 
-fn asked(sheet: &[u8], s: State, word: u32, a: &mut [u8], n: usize) -> Answered {
+// What a request gives back, and the device after it.
+struct Answer {
+    number: u32,
+    device: Device,
+}
+
+fn request(d: Device, word: u32, a: &mut [u8]) -> Answer {
+    let sheet = d.sheet;
+    let mut values = d.values;
+    let mut tally = d.tally;
+    let mut counts = d.counts;
+    let mut incoming = d.incoming;
+    let mut outgoing = d.outgoing;
+    let r = device::request(
+        &sheet,
+        d.setup,
+        &mut values,
+        &mut tally,
+        &mut counts,
+        &mut incoming,
+        &mut outgoing,
+        word,
+        a,
+    );
+    let number = r.number;
+    let setup = r.setup;
+    let device = Device {
+        sheet,
+        setup,
+        values,
+        tally,
+        counts,
+        incoming,
+        outgoing,
+    };
+    Answer { number, device }
+}
+
+fn asked(d: Device, word: u32, a: &mut [u8], n: usize) -> Answer {
     if a.len() < n {
-        return device::request(sheet, s, word, a);
+        return request(d, word, a);
     }
-    device::request(sheet, s, word, front(a, n))
+    request(d, word, front(a, n))
 }
 
 // Whether the picture of the second that the answer tells stands in memory at the offset that it tells.
@@ -104,12 +141,12 @@ fn answered(c: u8, number: u32, a: &[u8], memory: &[u8]) {
     say::letter(b'\n');
 }
 
-pub(crate) fn call(sheet: &[u8], s: State, c: u8, first: Words, memory: &[u8]) -> State {
+pub(crate) fn call(d: Device, c: u8, first: Words, memory: &[u8]) -> Device {
     let mut a = [0u8; 204];
     wire::put_words(&mut a, 0, &first);
     lines::told(c, false, &a);
     let w = word(c);
-    let r = asked(sheet, s, w, &mut a, length(c, w));
+    let r = asked(d, w, &mut a, length(c, w));
     answered(c, r.number, &a, memory);
-    r.state
+    r.device
 }

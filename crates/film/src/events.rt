@@ -16,23 +16,19 @@ use crate::pictures;
 use crate::say;
 use crate::scene;
 use crate::scene::Scene;
-use state::State;
+use state::Device;
 
-fn with_state(w: Scene, s: State) -> Scene {
-    let mut d = w.device;
-    d.state = s;
+fn with_device(w: Scene, device: Device) -> Scene {
     let mut next = w;
-    next.device = d;
+    next.device = device;
     next
 }
 
 fn call(w: Scene, memory: &[u8], c: u8) -> Scene {
-    let d = w.device;
-    let sheet = d.sheet;
-    let s = d.state;
     let first = calls::argument(c, w.first, scene::value(w), w.code);
-    let after = calls::call(&sheet, s, c, first, memory);
-    with_state(w, after)
+    let d = w.device;
+    let after = calls::call(d, c, first, memory);
+    with_device(w, after)
 }
 
 // The client that counts does so whatever it is answered.
@@ -49,20 +45,18 @@ fn counted(w: Scene) -> Scene {
 }
 
 fn arrive(w: Scene, memory: &mut [u8], space: &mut [u8], bytes: usize) -> Scene {
-    let d = w.device;
-    let sheet = d.sheet;
-    let s = d.state;
     let picture = std::num::wrapping_add_u32(w.pictures, 1);
-    let after = arrivals::arrive(&sheet, s, memory, space, picture, bytes);
-    let mut next = with_state(w, after);
+    let d = w.device;
+    let after = arrivals::arrive(d, memory, space, picture, bytes);
+    let mut next = with_device(w, after);
     next.pictures = picture;
     next
 }
 
 fn verdict(w: Scene) -> Scene {
     let d = w.device;
-    let s = d.state;
-    arrivals::verdict(s);
+    let tally = d.tally;
+    arrivals::verdict(d.setup, &tally);
     w
 }
 
@@ -78,8 +72,12 @@ fn make_frame(w: Scene, space: &mut [u8]) -> Scene {
 fn plane(w: Scene, space: &[u8]) -> Scene {
     let d = w.device;
     let sheet = d.sheet;
-    let s = d.state;
-    arrivals::plane(&sheet, s, wire::part(space, 0, w.frame as usize), w.number);
+    arrivals::plane(
+        &sheet,
+        d.setup,
+        wire::part(space, 0, w.frame as usize),
+        w.number,
+    );
     w
 }
 

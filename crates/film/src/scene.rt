@@ -19,10 +19,15 @@ pub(crate) struct Scene {
 
 // The title of a list to come, and no device yet: a closed one.
 pub(crate) fn empty() -> Scene {
-    let state = state::closed();
+    let setup = state::closed();
     let device = Device {
         sheet: [0; 2688],
-        state,
+        setup,
+        values: [0; 32],
+        tally: [0; 8],
+        counts: [0; 3],
+        incoming: [0; 32],
+        outgoing: [0; 160],
     };
     with_device(device, true)
 }

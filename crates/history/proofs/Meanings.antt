@@ -6,7 +6,7 @@ use native.Mathlib.Omega.{arith}
 use borrow.Author.Tests.{eqb-true, eqb-false}
 use lib.Dec.{eqb}
 use mathlib.Core.List.{List, []}
-use Rattle.stream.specs.declared.Run.{Run}
+use Rattle.stream.specs.Stream.{Run}
 use Rattle.status.specs.Film.{verdictAfter, verdictOf}
 use Rattle.status.specs.declared.Verdict.{Verdict}
 use Rattle.status.specs.declared.Verdict.the-variants.{Running, Blank, Gaps, Complete}

@@ -8,7 +8,7 @@ use native.Mathlib.Omega.{arith}
 use mathlib.Core.List.{List, [], _∷_, _++_, map, append-assoc}
 use lib.ListN.{length, length-append, length-map}
 use Rattle.buffers.specs.declared.Time.{Time}
-use Rattle.stream.specs.declared.Run.{Run}
+use Rattle.stream.specs.Stream.{Run}
 use Rattle.arrival.specs.Arrivals.{runLimit}
 use Rattle.history.specs.Paper.{Frame, Pair, Paper, Event, indexOf, blank, frameOf, filled, step}
 use Rattle.history.specs.Paper.Event.{put, whole, damaged, handed, begun, ended, sized, idle}

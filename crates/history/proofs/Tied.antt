@@ -16,7 +16,7 @@ use Rattle.ioctl.specs.declared.refusals.Refusal.the-variants.{NoSuchIndex, Not
 use Rattle.wire.proofs.Parts.{part-before, part-behind, part-stored}
 use Rattle.buffers.specs.declared.Time.{Time}
 use Rattle.buffers.specs.declared.Filled.{Filled}
-use Rattle.buffers.specs.declared.Queues.{Queues}
+use Rattle.buffers.specs.Queues.{Queues}
 use Rattle.buffers.specs.Search.{any}
 use Rattle.buffers.specs.Slot.{slotSize, slotOffset}
 use Rattle.buffers.specs.Queues.{noFrame, ofBuffer, isIncoming, isOutgoing, noBuffers, pushed, oldestIncoming, oldestOutgoing, filledOldest, popped}
@@ -24,15 +24,15 @@ use Rattle.buffers.proofs.Slots.{slot-least, slots-apart}
 use Rattle.buffers.proofs.Views.{Holds, queued-is, done-is, holds-none, holds-empty, holds-pushed, oldest-incoming, oldest-outgoing, holds-filled, holds-popped}
 use Rattle.stream.specs.declared.Reply.{Reply}
 use Rattle.stream.specs.declared.Reply.the-variants.{Done, Granted, Returned, Refused}
-use Rattle.stream.specs.declared.Run.{Run}
-use Rattle.stream.specs.declared.Step.{Step}
-use Rattle.stream.specs.declared.Stream.{Stream}
+use Rattle.stream.specs.Stream.{Run}
+use Rattle.stream.specs.Calls.{Step}
+use Rattle.stream.specs.Stream.{Stream}
 use Rattle.stream.specs.Stream.{oneMore, streaming, freshStream, withQueues, started, stoppedRun, stopped, handedRun}
 use Rattle.stream.specs.Calls.{answers, refuses, grantOf, requestOf, enqueueOf, dequeueOf, startOf, stopOf}
 use Rattle.stream.proofs.Grants.{grant-few, grant-fits}
 use Rattle.arrival.specs.declared.Arrival.{Arrival}
 use Rattle.arrival.specs.declared.Arrival.the-variants as arrivals
-use Rattle.arrival.specs.declared.Arrived.{Arrived}
+use Rattle.arrival.specs.Arrivals.{Arrived}
 use Rattle.arrival.specs.Arrivals.{runLimit, withRun, countedRun, damagedRun, droppedRun, answers as arrives-as, placedOf, acceptedOf, arrivalOf, writtenBy}
 use Rattle.history.specs.Calls.{Call, Answer, World, opened, answer, withStream, next}
 use Rattle.history.specs.Calls.Call.{request, enqueue, dequeue, start, stop, resize, arrival, other}

@@ -8,11 +8,11 @@ use Rattle.ioctl.specs.declared.refusals.Refusal.the-variants.{BuffersExist}
 use Rattle.buffers.specs.declared.Time.{Time}
 use Rattle.stream.specs.declared.Reply.{Reply}
 use Rattle.stream.specs.declared.Reply.the-variants.{Done, Refused}
-use Rattle.stream.specs.declared.Stream.{Stream}
+use Rattle.stream.specs.Stream.{Stream}
 use Rattle.stream.specs.Stream.{freshStream}
 use Rattle.stream.specs.Calls.{requestOf, enqueueOf, dequeueOf, startOf, stopOf}
 use Rattle.arrival.specs.declared.Arrival.{Arrival}
-use Rattle.arrival.specs.declared.Arrived.{Arrived}
+use Rattle.arrival.specs.Arrivals.{Arrived}
 use Rattle.arrival.specs.Arrivals.{arrivalOf, writtenBy}
 
 -- A call. A client asks for so many buffers, hands one in, takes one, starts, stops, or asks for another frame size; or a frame

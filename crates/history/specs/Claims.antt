@@ -9,7 +9,7 @@ use Rattle.buffers.specs.declared.Time.{Time}
 use Rattle.buffers.specs.declared.Filled.{Filled}
 use Rattle.buffers.specs.Slot.{slotOffset}
 use Rattle.stream.specs.declared.Reply.the-variants.{Done, Returned}
-use Rattle.stream.specs.declared.Run.{Run}
+use Rattle.stream.specs.Stream.{Run}
 use Rattle.arrival.specs.declared.Arrival.the-variants.{Stored}
 use Rattle.status.specs.Buffer.{flagsOf}
 use Rattle.status.specs.Film.{verdictOf}

@@ -6,7 +6,7 @@ use borrow.Author.Tests.{eq-eqb, ne-eqb}
 use Rattle.wire.specs.Words.{wordAt}
 use Rattle.ioctl.specs.Refusal.{errnoOf}
 use Rattle.ioctl.specs.declared.refusals.Refusal.the-variants.{WrongType}
-use Rattle.state.specs.declared.State.{State}
+use Rattle.state.specs.State.{State}
 use Rattle.state.specs.Answers.{Answer, refusedWith, typed}
 
 -- the word w read at the type's place

@@ -14,8 +14,7 @@ use Rattle.negotiation.specs.Negotiation.{negotiated, askedFormat}
 use Rattle.negotiation.specs.Answer.{formatReply}
 use Rattle.crop.specs.Crop.{clamped}
 use Rattle.replies.specs.Replies.{capabilityReply, descriptionReply, cropReply, cropCapabilityReply}
-use Rattle.state.specs.declared.State.{State}
-use Rattle.state.specs.State.{withFormat, withCrop}
+use Rattle.state.specs.State.{State, withFormat, withCrop}
 use Rattle.state.specs.Answers.{Answer, done, refused, typed}
 
 -- QUERYCAP

@@ -8,16 +8,21 @@ use Rattle.ioctl.specs.Refusal.{errnoOf}
 use Rattle.ioctl.specs.declared.refusals.Refusal.{Refusal}
 use Rattle.ioctl.specs.declared.refusals.Refusal.the-variants.{WrongType, WrongMemory}
 use Rattle.state.specs.declared.Answered.{Answered}
-use Rattle.state.specs.declared.State.{State}
+use Rattle.stream.specs.Stream.{Stream}
+use Rattle.state.specs.State.{State, stateOf}
 
 pub record Answer : Type 0 where
   pub number : ℕ
   pub state : State
   pub argument : List ℕ
 
--- what a function that returns r, and leaves this argument, answers
-abbrev pub answerOf : Answered → List ℕ → Answer
-answerOf r a = record { number = r .number; state = r .state; argument = a }
+-- a number, a state and an argument
+abbrev pub answer : ℕ → State → List ℕ → Answer
+answer n d a = record { number = n; state = d; argument = a }
+
+-- what a function that returns r answers, given what it leaves of the values, the stream and the argument
+abbrev pub answerOf : Answered → List ℕ → Stream → List ℕ → Answer
+answerOf r v t a = answer (r .number) (stateOf (r .setup) v t) a
 
 -- done
 abbrev pub done : State → List ℕ → Answer

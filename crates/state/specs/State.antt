@@ -9,24 +9,34 @@ use Rattle.format.specs.declared.Format.{Format}
 use Rattle.format.specs.Size.{imageSize}
 use Rattle.negotiation.specs.Negotiation.{openingFormat}
 use Rattle.control.specs.Values.{openingValues}
-use Rattle.stream.specs.declared.Stream.{Stream}
-use Rattle.stream.specs.Stream.{freshStream}
-use Rattle.state.specs.declared.State.{State}
+use Rattle.stream.specs.Stream.{Stream, freshStream}
+use Rattle.state.specs.declared.Setup.{Setup}
+
+-- all that a device keeps beside its sheet; ready is not 0 while it is open
+pub record State : Type 0 where
+  pub ready : ℕ
+  pub format : Format
+  pub crop : Rect
+  pub values : List ℕ
+  pub stream : Stream
+
+-- a state by its parts
+abbrev pub stateOf : Setup → List ℕ → Stream → State
+stateOf p v t = record { ready = p .ready; format = p .format; crop = p .crop; values = v; stream = t }
 
 -- closed: all zeros
+abbrev pub closedSetup : Setup
+closedSetup = record { ready = 0; format = record { width = 0; height = 0; code = 0 }; crop = record { left = pos 0; top = pos 0; width = pos 0; height = pos 0 } }
+
 unfoldable pub closedState : State
-closedState =
-    record {
-      ready = 0;
-      format = record { width = 0; height = 0; code = 0 };
-      crop = record { left = pos 0; top = pos 0; width = pos 0; height = pos 0 };
-      values = replicate 32 0;
-      stream = freshStream 0;
-    }
+closedState = stateOf closedSetup (replicate 32 0) (freshStream 0)
 
 -- after a good opening: first format, greatest size, default crop, default values, no buffers
+abbrev pub openingSetup : List ℕ → Setup
+openingSetup s = record { ready = 1; format = openingFormat s; crop = cropDefault s }
+
 unfoldable pub openingState : List ℕ → ℕ → State
-openingState s n = record { ready = 1; format = openingFormat s; crop = cropDefault s; values = openingValues s; stream = freshStream n }
+openingState s n = stateOf (openingSetup s) (openingValues s) (freshStream n)
 
 -- the image size in force
 unfoldable pub frameSize : List ℕ → State → ℕ

@@ -1,39 +1,49 @@
-// What a device keeps. The sheet's copy never changes and is lent to the functions that read it; the state goes in by value and comes
-// back changed. Both are numbers only, so that a caller in C can hold them, and every value of them is answered.
+// What a device keeps. The sheet's copy never changes and is lent to the functions that read it; the setup goes in by value and comes back
+// changed; the values of the controls and the numbers of the stream stand in arrays that are lent and changed in place. All of it is numbers,
+// so that a caller in C can hold it, and every value of it is answered.
 ghost use mathlib.Core.Path.{_≡_};
-ghost use Rattle.state.specs.State.{closedState, openingState, frameSize};
+ghost use mathlib.Core.List.{List};
+ghost use Prim.Native.Nat.{ℕ};
+ghost use Rattle.stream.specs.Stream.{Stream};
+ghost use Rattle.state.specs.State.{closedSetup, openingSetup, stateOf, frameSize};
+use buffers::Counts;
+use buffers::Entries;
+use buffers::Indices;
 use control::Values;
 use fields::Sheet;
 use format::Format;
 use geometry::Rect;
-use stream::Stream;
+use stream::Tally;
 
-// What the calls change. `ready` is not 0 while the device is open.
+// What is chosen by requests. `ready` is not 0 while the device is open.
 #[repr(C)]
-pub struct State {
+pub struct Setup {
     pub ready: u32,
     pub format: Format,
     pub crop: Rect,
-    pub values: Values,
-    pub stream: Stream,
 }
 
-// A device: the copy of its sheet, and its state.
+// A device: the copy of its sheet, its setup, the values of its controls, and its stream.
 #[repr(C)]
 pub struct Device {
     pub sheet: Sheet,
-    pub state: State,
+    pub setup: Setup,
+    pub values: Values,
+    pub tally: Tally,
+    pub counts: Counts,
+    pub incoming: Indices,
+    pub outgoing: Entries,
 }
 
-// What a request gives back, and the state after it.
+// What a request gives back, and the setup after it.
 pub struct Answered {
     pub number: u32,
-    pub state: State,
+    pub setup: Setup,
 }
 
 // A refused opening leaves a closed device: all numbers are 0.
-pub fn closed() -> State
-    ensures { λ r. ⌜ r ≡ closedState ⌝ }
+pub fn closed() -> Setup
+    ensures { λ r. ⌜ r ≡ closedSetup ⌝ }
 {
     let format = Format {
         width: 0,
@@ -46,36 +56,29 @@ pub fn closed() -> State
         width: 0,
         height: 0,
     };
-    let stream = stream::fresh(0);
-    State {
+    Setup {
         ready: 0,
         format,
         crop,
-        values: [0; 32],
-        stream,
     }
 }
 
-// After a good opening: first format, greatest size, default crop, default values, no buffers.
-pub fn opening(sheet: &[u8], length: u64) -> State
-    ensures { λ r. ⌜ r ≡ openingState (now (sheet .entry)) length ⌝ }
+// After a good opening: first format, greatest size, default crop.
+pub fn opening(sheet: &[u8]) -> Setup
+    ensures { λ r. ⌜ r ≡ openingSetup (now (sheet .entry)) ⌝ }
 {
     let format = negotiation::at_opening(sheet);
     let crop = geometry::crop_default(sheet);
-    let values = control::at_opening(sheet);
-    let stream = stream::fresh(length);
-    State {
+    Setup {
         ready: 1,
         format,
         crop,
-        values,
-        stream,
     }
 }
 
 // The image size of the present format.
-pub fn frame_size(sheet: &[u8], s: State) -> u32
-    ensures { λ r. ⌜ r ≡ frameSize (now (sheet .entry)) s ⌝ }
+pub fn frame_size(sheet: &[u8], s: Setup) -> u32
+    ensures { λ r. ⌜ ((v : List ℕ) (t : Stream) → r ≡ frameSize (now (sheet .entry)) (stateOf s v t)) ⌝ }
 {
     let f = s.format;
     format::image_size(f, geometry::line_alignment(sheet))

@@ -4,10 +4,10 @@ use mathlib.Core.Bool.{cond}
 use lib.Dec.{leb}
 use Rattle.ioctl.specs.declared.refusals.Refusal.the-variants.{NoSuchIndex}
 use Rattle.buffers.specs.declared.Filled.{Filled}
-use Rattle.buffers.specs.declared.Queues.{Queues}
+use Rattle.buffers.specs.Queues.{Queues}
 use Rattle.buffers.specs.Slot.{slotSize, slotOffset}
 use Rattle.buffers.specs.Queues.{isIncoming, isOutgoing, entryOf}
-use Rattle.stream.specs.declared.Stream.{Stream}
+use Rattle.stream.specs.Stream.{Stream}
 use Rattle.status.specs.declared.Status.{Status}
 use Rattle.status.specs.declared.Queried.{Queried}
 use Rattle.status.specs.declared.Queried.the-variants.{Buffer, Refused}

@@ -1,22 +1,27 @@
 // The status of a buffer.
 ghost use mathlib.Core.Path.{_≡_};
-ghost use Rattle.status.specs.Buffer.{flagsOf, describedOf, statusOf, queryOf, returnedOf};
+ghost use mathlib.Core.Bool.{cond};
+ghost use mathlib.Core.List.{List};
+ghost use Prim.Native.Nat.{ℕ};
+ghost use Rattle.buffers.specs.Queues.{entriesOf};
+ghost use Rattle.stream.specs.Stream.{streamOf};
+ghost use Rattle.status.specs.Buffer.{describedOf, statusOf, queryOf, returnedOf};
 use crate::Queried;
 use crate::Status;
+use buffers::Counts;
+use buffers::Entries;
 use buffers::Filled;
-use buffers::Queues;
+use buffers::Indices;
 use ioctl::Refusal;
-use stream::Stream;
 
-// Which queue buffer k is in: 2 the incoming one, 4 the outgoing one, 0 neither.
-fn flags(q: Queues, k: u32) -> u32
-    ensures { λ r. ⌜ r ≡ flagsOf q k ⌝ }
+// Which queue a buffer is in: 4 the outgoing one, 2 the incoming one, 0 neither.
+fn flags(outgoing: bool, incoming: bool) -> u32
+    ensures { λ r. ⌜ r ≡ cond outgoing 4 (cond incoming 2 0) ⌝ }
 {
-    let out = buffers::find_outgoing(q, k);
-    if out.present {
+    if outgoing {
         return 4;
     }
-    if buffers::is_incoming(q, k) {
+    if incoming {
         return 2;
     }
     0
@@ -41,23 +46,29 @@ fn described(k: u32, flags: u32, entry: Filled, size: u32) -> Status
 }
 
 // Buffer k, while frames have this size.
-pub fn of_buffer(s: Stream, k: u32, size: u32) -> Status
-    ensures { λ r. ⌜ r ≡ statusOf s k size ⌝ }
+pub fn of_buffer(
+    counts: &Counts,
+    incoming: &Indices,
+    outgoing: &Entries,
+    k: u32,
+    size: u32,
+) -> Status
+    ensures { λ r. ⌜ ((e : List ℕ) → r ≡ statusOf (streamOf e (now (counts .entry)) (now (incoming .entry)) (entriesOf 32 (now (outgoing .entry)))) k size) ⌝ }
 {
-    let q = s.queues;
-    let out = buffers::find_outgoing(q, k);
+    let out = buffers::find_outgoing(counts, outgoing, k);
     let entry = out.entry;
-    described(k, flags(q, k), entry, size)
+    let waits = buffers::is_incoming(counts, incoming, k);
+    described(k, flags(out.present, waits), entry, size)
 }
 
 // The status of buffer k, if there is one.
-pub fn query(s: Stream, k: u32, size: u32) -> Queried
-    ensures { λ r. ⌜ r ≡ queryOf s k size ⌝ }
+pub fn query(counts: &Counts, incoming: &Indices, outgoing: &Entries, k: u32, size: u32) -> Queried
+    ensures { λ r. ⌜ ((e : List ℕ) → r ≡ queryOf (streamOf e (now (counts .entry)) (now (incoming .entry)) (entriesOf 32 (now (outgoing .entry)))) k size) ⌝ }
 {
-    if s.queues.granted <= k {
+    if counts[buffers::GRANTED] <= k {
         return Queried::Refused(Refusal::NoSuchIndex);
     }
-    let status = of_buffer(s, k, size);
+    let status = of_buffer(counts, incoming, outgoing, k, size);
     Queried::Buffer(status)
 }
 

@@ -1,24 +1,28 @@
 // The verdict.
 ghost use mathlib.Core.Path.{_≡_};
+ghost use mathlib.Core.List.{List};
+ghost use Prim.Native.Nat.{ℕ};
+ghost use Rattle.buffers.specs.declared.Filled.{Filled};
+ghost use Rattle.stream.specs.Stream.{streamOf};
 ghost use Rattle.status.specs.Film.{verdictOf, verdictNumber};
 use crate::Verdict;
-use stream::Stream;
+use stream::Tally;
 
 // What can be said of the film of the last run.
-pub fn film_verdict(s: Stream) -> Verdict
-    ensures { λ r. ⌜ r ≡ verdictOf s ⌝ }
+pub fn film_verdict(tally: &Tally) -> Verdict
+    ensures { λ r. ⌜ ((c i : List ℕ) (o : List Filled) → r ≡ verdictOf (streamOf (now (tally .entry)) c i o)) ⌝ }
 {
-    let run = s.run;
-    if s.streaming != 0 {
+    if tally[stream::STREAMING] != 0 {
         return Verdict::Running;
     }
-    if run.ran == 0 {
+    if tally[stream::RAN] == 0 {
         return Verdict::Blank;
     }
-    if run.handed == 0 {
+    let handed = tally[stream::HANDED];
+    if handed == 0 {
         return Verdict::Blank;
     }
-    if run.handed == run.accepted {
+    if handed == tally[stream::ACCEPTED] {
         return Verdict::Complete;
     }
     Verdict::Gaps

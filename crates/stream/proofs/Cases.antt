@@ -4,10 +4,10 @@ use mathlib.Core.Bool.{Bool, true, false, _||_}
 use Prim.Native.Nat.{ℕ, _<_}
 use borrow.Author.Tests.{lt-leb}
 use Rattle.ioctl.specs.declared.refusals.Refusal.the-variants.{NotDequeued}
-use Rattle.buffers.specs.declared.Queues.{Queues}
+use Rattle.buffers.specs.Queues.{Queues}
 use Rattle.buffers.specs.Queues.{isIncoming, isOutgoing, pushed}
 use Rattle.stream.specs.declared.Reply.the-variants.{Done}
-use Rattle.stream.specs.declared.Stream.{Stream}
+use Rattle.stream.specs.Stream.{Stream}
 use Rattle.stream.specs.Stream.{withQueues}
 use Rattle.stream.specs.Calls.{answers, refuses, enqueueOf}
 

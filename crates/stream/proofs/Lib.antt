@@ -1,2 +1,3 @@
 pub mod Cases
 pub mod Grants
+pub mod Tally

@@ -8,11 +8,13 @@ use Rattle.buffers.specs.Slot.{slotSize}
 use Rattle.buffers.specs.Queues.{isIncoming, isOutgoing, oldestOutgoing, pushed, popped}
 use Rattle.stream.specs.declared.Reply.{Reply}
 use Rattle.stream.specs.declared.Reply.the-variants.{Done, Granted, Returned, Refused}
-use Rattle.stream.specs.declared.Step.{Step}
-use Rattle.stream.specs.declared.Stream.{Stream}
-use Rattle.stream.specs.Stream.{streaming, withQueues, started, stopped, handedRun}
+use Rattle.stream.specs.Stream.{Stream, streaming, withQueues, started, stopped, handedRun}
 
--- an answer, and the stream after it
+-- the answer to a call, and the stream after it
+pub record Step : Type 0 where
+  pub reply : Reply
+  pub stream : Stream
+
 abbrev pub answers : Reply → Stream → Step
 answers r s = record { reply = r; stream = s }
 

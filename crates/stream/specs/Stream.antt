@@ -1,11 +1,37 @@
 -- The state of one stream: at opening, when a run begins, when it ends.
 use Prim.Native.Nat.{ℕ, _+_, _%_, _^_}
 use mathlib.Core.Bool.{Bool, cond, not}
+use mathlib.Core.List.{List}
 use lib.Dec.{eqb}
-use Rattle.buffers.specs.declared.Queues.{Queues}
-use Rattle.buffers.specs.Queues.{noBuffers, emptyQueues}
-use Rattle.stream.specs.declared.Run.{Run}
-use Rattle.stream.specs.declared.Stream.{Stream}
+use lib.ListN.{getD}
+use Rattle.buffers.specs.declared.Filled.{Filled}
+use Rattle.buffers.specs.Queues.{Queues, queuesOf, noBuffers, emptyQueues}
+
+-- what became of the arrivals of the last run; ran is 0 before the first
+pub record Run : Type 0 where
+  pub ran : ℕ
+  pub accepted : ℕ
+  pub handed : ℕ
+  pub damaged : ℕ
+  pub dropped : ℕ
+  pub discarded : ℕ
+
+-- the length of the memory as it was noted at opening, whether a run is on (not 0), its record, the buffers
+pub record Stream : Type 0 where
+  pub length : ℕ
+  pub streaming : ℕ
+  pub run : Run
+  pub queues : Queues
+
+-- a stream as it stands in arrays: its record, the counts of its buffers, the indices, the entries
+abbrev pub streamOf : List ℕ → List ℕ → List ℕ → List Filled → Stream
+streamOf e c i o =
+    record {
+      length = getD e 0 0;
+      streaming = getD e 1 0;
+      run = record { ran = getD e 2 0; accepted = getD e 3 0; handed = getD e 4 0; damaged = getD e 5 0; dropped = getD e 6 0; discarded = getD e 7 0 };
+      queues = queuesOf c i o;
+    }
 
 -- one more in a count of 64 bits
 abbrev pub oneMore : ℕ → ℕ

@@ -6,14 +6,14 @@ use lib.Dec.{eqb}
 use lib.Seq.{sets}
 use Rattle.wire.specs.Words.{wordAt}
 use Rattle.buffers.specs.Queues.{oldestOutgoing}
-use Rattle.stream.specs.declared.Step.{Step}
+use Rattle.stream.specs.Calls.{Step}
 use Rattle.stream.specs.Calls.{requestOf, enqueueOf, dequeueOf, startOf, stopOf}
 use Rattle.stream.specs.Numbers.{replyNumber}
 use Rattle.status.specs.declared.Queried.{Queried}
 use Rattle.status.specs.declared.Queried.the-variants as queries
 use Rattle.status.specs.Buffer.{statusOf, queryOf, returnedOf}
 use Rattle.replies.specs.Replies.{buffersReply, bufferReply}
-use Rattle.state.specs.declared.State.{State}
+use Rattle.state.specs.State.{State}
 use Rattle.state.specs.State.{frameSize, withStream}
 use Rattle.state.specs.Answers.{Answer, done, refusedWith, refused, typed, mapped}
 

@@ -1,133 +1,132 @@
 // The calls about buffers.
 ghost use mathlib.Core.Path.{_≡_};
-ghost use Rattle.state.specs.Answers.{answerOf};
+ghost use mathlib.Core.List.{List};
+ghost use Prim.Native.Nat.{ℕ};
+ghost use Rattle.buffers.specs.declared.Filled.{Filled};
+ghost use Rattle.buffers.specs.Queues.{entriesOf};
+ghost use Rattle.stream.specs.Stream.{streamOf};
+ghost use Rattle.state.specs.State.{stateOf};
+ghost use Rattle.state.specs.Answers.{answer};
 ghost use Rattle.streaming.specs.Streaming.{reqbufsOf, querybufOf, qbufOf, dqbufOf};
+use buffers::Counts;
+use buffers::Entries;
+use buffers::Indices;
 use ioctl::Refusal;
-use state::Answered;
-use state::State;
+use state::Setup;
 use status::Queried;
+use stream::Tally;
 
 // Buffers are asked for, or freed.
-pub fn reqbufs(sheet: &[u8], s: State, argument: &mut [u8]) -> Answered
-    ensures { λ r. ⌜ answerOf r (now (argument .exit)) ≡ reqbufsOf (now (sheet .entry)) s (now (argument .entry)) ⌝ }
+pub fn reqbufs(
+    sheet: &[u8],
+    s: Setup,
+    tally: &mut Tally,
+    counts: &mut Counts,
+    argument: &mut [u8],
+) -> u32
+    ensures { λ r. ⌜ ((v i : List ℕ) (o : List Filled) → answer r (stateOf s v (streamOf (now (tally .exit)) (now (counts .exit)) i o)) (now (argument .exit))
+        ≡ reqbufsOf (now (sheet .entry)) (stateOf s v (streamOf (now (tally .entry)) (now (counts .entry)) i o)) (now (argument .entry))) ⌝ }
 {
     if wire::word_at(argument, 4) != 1 {
-        let number = ioctl::errno(Refusal::WrongType);
-        return Answered { number, state: s };
+        return ioctl::errno(Refusal::WrongType);
     }
     if wire::word_at(argument, 8) != 1 {
-        let number = ioctl::errno(Refusal::WrongMemory);
-        return Answered { number, state: s };
+        return ioctl::errno(Refusal::WrongMemory);
     }
-    let before = s.stream;
-    let r = stream::request_buffers(
-        before,
-        wire::word_at(argument, 0),
-        state::frame_size(sheet, s),
-    );
-    let reply = r.reply;
+    let count = wire::word_at(argument, 0);
+    let reply = stream::request_buffers(tally, counts, count, state::frame_size(sheet, s));
     let number = stream::reply_number(reply);
     if number != 0 {
-        return Answered { number, state: s };
+        return number;
     }
-    let after = r.stream;
-    replies::put_buffers(argument, after.queues.granted);
-    let mut n = s;
-    n.stream = after;
-    Answered {
-        number: 0,
-        state: n,
-    }
+    replies::put_buffers(argument, counts[buffers::GRANTED]);
+    0
 }
 
 // The status of a buffer.
-pub fn querybuf(sheet: &[u8], s: State, argument: &mut [u8]) -> Answered
-    ensures { λ r. ⌜ answerOf r (now (argument .exit)) ≡ querybufOf (now (sheet .entry)) s (now (argument .entry)) ⌝ }
+pub fn querybuf(
+    sheet: &[u8],
+    s: Setup,
+    counts: &Counts,
+    incoming: &Indices,
+    outgoing: &Entries,
+    argument: &mut [u8],
+) -> u32
+    ensures { λ r. ⌜ ((v e : List ℕ) → answer r (stateOf s v (streamOf e (now (counts .entry)) (now (incoming .entry)) (entriesOf 32 (now (outgoing .entry))))) (now (argument .exit))
+        ≡ querybufOf (now (sheet .entry)) (stateOf s v (streamOf e (now (counts .entry)) (now (incoming .entry)) (entriesOf 32 (now (outgoing .entry))))) (now (argument .entry))) ⌝ }
 {
     if wire::word_at(argument, 4) != 1 {
-        let number = ioctl::errno(Refusal::WrongType);
-        return Answered { number, state: s };
+        return ioctl::errno(Refusal::WrongType);
     }
-    let now = s.stream;
-    let found = status::query(now, wire::word_at(argument, 0), state::frame_size(sheet, s));
+    let k = wire::word_at(argument, 0);
+    let found = status::query(counts, incoming, outgoing, k, state::frame_size(sheet, s));
     match found {
         Queried::Buffer(b) => {
             replies::put_buffer(argument, b);
-            Answered {
-                number: 0,
-                state: s,
-            }
+            0
         }
-        Queried::Refused(why) => {
-            let number = ioctl::errno(why);
-            Answered { number, state: s }
-        }
+        Queried::Refused(why) => ioctl::errno(why),
     }
 }
 
 // A buffer is handed in.
-pub fn qbuf(sheet: &[u8], s: State, argument: &mut [u8]) -> Answered
-    ensures { λ r. ⌜ answerOf r (now (argument .exit)) ≡ qbufOf (now (sheet .entry)) s (now (argument .entry)) ⌝ }
+pub fn qbuf(
+    sheet: &[u8],
+    s: Setup,
+    counts: &mut Counts,
+    incoming: &mut Indices,
+    outgoing: &Entries,
+    argument: &mut [u8],
+) -> u32
+    ensures { λ r. ⌜ ((v e : List ℕ) → answer r (stateOf s v (streamOf e (now (counts .exit)) (now (incoming .exit)) (entriesOf 32 (now (outgoing .entry))))) (now (argument .exit))
+        ≡ qbufOf (now (sheet .entry)) (stateOf s v (streamOf e (now (counts .entry)) (now (incoming .entry)) (entriesOf 32 (now (outgoing .entry))))) (now (argument .entry))) ⌝ }
 {
     let k = wire::word_at(argument, 0);
     if wire::word_at(argument, 4) != 1 {
-        let number = ioctl::errno(Refusal::WrongType);
-        return Answered { number, state: s };
+        return ioctl::errno(Refusal::WrongType);
     }
     if wire::word_at(argument, 48) != 1 {
-        let number = ioctl::errno(Refusal::WrongMemory);
-        return Answered { number, state: s };
+        return ioctl::errno(Refusal::WrongMemory);
     }
-    let before = s.stream;
-    let r = stream::enqueue(before, k);
-    let reply = r.reply;
+    let reply = stream::enqueue(counts, incoming, outgoing, k);
     let number = stream::reply_number(reply);
     if number != 0 {
-        return Answered { number, state: s };
+        return number;
     }
-    let after = r.stream;
     replies::put_buffer(
         argument,
-        status::of_buffer(after, k, state::frame_size(sheet, s)),
+        status::of_buffer(counts, incoming, outgoing, k, state::frame_size(sheet, s)),
     );
-    let mut n = s;
-    n.stream = after;
-    Answered {
-        number: 0,
-        state: n,
-    }
+    0
 }
 
 // The oldest filled buffer is handed over.
-pub fn dqbuf(sheet: &[u8], s: State, argument: &mut [u8]) -> Answered
-    ensures { λ r. ⌜ answerOf r (now (argument .exit)) ≡ dqbufOf (now (sheet .entry)) s (now (argument .entry)) ⌝ }
+pub fn dqbuf(
+    sheet: &[u8],
+    s: Setup,
+    tally: &mut Tally,
+    counts: &mut Counts,
+    outgoing: &mut Entries,
+    argument: &mut [u8],
+) -> u32
+    ensures { λ r. ⌜ ((v i : List ℕ) → answer r (stateOf s v (streamOf (now (tally .exit)) (now (counts .exit)) i (entriesOf 32 (now (outgoing .exit))))) (now (argument .exit))
+        ≡ dqbufOf (now (sheet .entry)) (stateOf s v (streamOf (now (tally .entry)) (now (counts .entry)) i (entriesOf 32 (now (outgoing .entry))))) (now (argument .entry))) ⌝ }
 {
     if wire::word_at(argument, 4) != 1 {
-        let number = ioctl::errno(Refusal::WrongType);
-        return Answered { number, state: s };
+        return ioctl::errno(Refusal::WrongType);
     }
     if wire::word_at(argument, 48) != 1 {
-        let number = ioctl::errno(Refusal::WrongMemory);
-        return Answered { number, state: s };
+        return ioctl::errno(Refusal::WrongMemory);
     }
-    let before = s.stream;
-    let r = stream::dequeue(before);
-    let reply = r.reply;
+    let entry = buffers::oldest_outgoing(outgoing);
+    let reply = stream::dequeue(tally, counts, outgoing);
     let number = stream::reply_number(reply);
     if number != 0 {
-        return Answered { number, state: s };
+        return number;
     }
-    let entries = before.queues.outgoing;
-    let entry = entries[0];
     replies::put_buffer(
         argument,
         status::returned(entry, state::frame_size(sheet, s)),
     );
-    let mut n = s;
-    let after = r.stream;
-    n.stream = after;
-    Answered {
-        number: 0,
-        state: n,
-    }
+    0
 }

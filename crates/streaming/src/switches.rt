@@ -1,50 +1,37 @@
 // The calls that start and stop a run. Both are write-only: the argument stays.
 ghost use mathlib.Core.Path.{_≡_};
-ghost use Rattle.state.specs.Answers.{answerOf};
+ghost use mathlib.Core.List.{List};
+ghost use Prim.Native.Nat.{ℕ};
+ghost use Rattle.buffers.specs.declared.Filled.{Filled};
+ghost use Rattle.stream.specs.Stream.{streamOf};
+ghost use Rattle.state.specs.declared.Setup.{Setup};
+ghost use Rattle.state.specs.State.{stateOf};
+ghost use Rattle.state.specs.Answers.{answer};
 ghost use Rattle.streaming.specs.Streaming.{streamonOf, streamoffOf};
+use buffers::Counts;
 use ioctl::Refusal;
-use state::Answered;
-use state::State;
+use stream::Tally;
 
 // A run begins.
-pub fn streamon(s: State, argument: &[u8]) -> Answered
-    ensures { λ r. ⌜ answerOf r (now (argument .entry)) ≡ streamonOf s (now (argument .entry)) ⌝ }
+pub fn streamon(tally: &mut Tally, counts: &Counts, argument: &[u8]) -> u32
+    ensures { λ r. ⌜ ((s : Setup) (v i : List ℕ) (o : List Filled) → answer r (stateOf s v (streamOf (now (tally .exit)) (now (counts .entry)) i o)) (now (argument .entry))
+        ≡ streamonOf (stateOf s v (streamOf (now (tally .entry)) (now (counts .entry)) i o)) (now (argument .entry))) ⌝ }
 {
     if wire::word_at(argument, 0) != 1 {
-        let number = ioctl::errno(Refusal::WrongType);
-        return Answered { number, state: s };
+        return ioctl::errno(Refusal::WrongType);
     }
-    let before = s.stream;
-    let r = stream::start(before);
-    let reply = r.reply;
-    let number = stream::reply_number(reply);
-    if number != 0 {
-        return Answered { number, state: s };
-    }
-    let after = r.stream;
-    let mut n = s;
-    n.stream = after;
-    Answered {
-        number: 0,
-        state: n,
-    }
+    let reply = stream::start(tally, counts);
+    stream::reply_number(reply)
 }
 
 // The run ends, if one is on, and the queues are emptied.
-pub fn streamoff(s: State, argument: &[u8]) -> Answered
-    ensures { λ r. ⌜ answerOf r (now (argument .entry)) ≡ streamoffOf s (now (argument .entry)) ⌝ }
+pub fn streamoff(tally: &mut Tally, counts: &mut Counts, argument: &[u8]) -> u32
+    ensures { λ r. ⌜ ((s : Setup) (v i : List ℕ) (o : List Filled) → answer r (stateOf s v (streamOf (now (tally .exit)) (now (counts .exit)) i o)) (now (argument .entry))
+        ≡ streamoffOf (stateOf s v (streamOf (now (tally .entry)) (now (counts .entry)) i o)) (now (argument .entry))) ⌝ }
 {
     if wire::word_at(argument, 0) != 1 {
-        let number = ioctl::errno(Refusal::WrongType);
-        return Answered { number, state: s };
+        return ioctl::errno(Refusal::WrongType);
     }
-    let before = s.stream;
-    let r = stream::stop(before);
-    let after = r.stream;
-    let mut n = s;
-    n.stream = after;
-    Answered {
-        number: 0,
-        state: n,
-    }
+    let reply = stream::stop(tally, counts);
+    stream::reply_number(reply)
 }

@@ -4,7 +4,6 @@ use crate::say;
 use crate::scene;
 use crate::scene::Scene;
 use arrival::Arrival;
-use arrival::Arrived;
 use buffers::Time;
 
 fn kind(c: u8) {
@@ -54,14 +53,6 @@ fn answer(a: Arrival) {
     }
 }
 
-// Says what an arrival is answered; the stream goes on as it leaves it.
-fn after(w: Scene, r: Arrived) -> Scene {
-    let a = r.arrival;
-    let stream = r.stream;
-    answer(a);
-    scene::with(w, stream)
-}
-
 // By the rule of pictures, or by word of the caller.
 fn is_whole(c: u8, n: u64, size: u32, time: Time) -> bool {
     match c {
@@ -77,9 +68,24 @@ fn arrive(w: Scene, memory: &mut [u8], c: u8, time: Time) -> Scene {
     frame::fill(&mut space, n, w.arrivals);
     let bytes = wire::part(&space, 0, n as usize);
     let s = w.stream;
+    let mut tally = s.tally;
+    let mut counts = s.counts;
+    let mut incoming = s.incoming;
+    let mut outgoing = s.outgoing;
     let whole = is_whole(c, bytes.len() as u64, w.size, time);
-    let r = arrival::arrive(s, memory, bytes, whole, w.size, time);
-    after(w, r)
+    let a = arrival::arrive(
+        &mut tally,
+        &mut counts,
+        &mut incoming,
+        &mut outgoing,
+        memory,
+        bytes,
+        whole,
+        w.size,
+        time,
+    );
+    answer(a);
+    scene::with(w, tally, counts, incoming, outgoing)
 }
 
 // The next frame arrives.

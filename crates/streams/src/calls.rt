@@ -8,7 +8,6 @@ use status::Queried;
 use status::Status;
 use status::Verdict;
 use stream::Reply;
-use stream::Step;
 
 // A buffer handed over, and whether the frame of that time stands in memory at its offset.
 fn returned(entry: Filled, size: u32, memory: &[u8]) {
@@ -40,47 +39,64 @@ fn reply(r: Reply, size: u32, memory: &[u8]) {
     }
 }
 
-// Says what a call is answered; the stream goes on as it leaves it.
-fn after(w: Scene, step: Step, memory: &[u8]) -> Scene {
-    let answer = step.reply;
-    let stream = step.stream;
-    reply(answer, w.size, memory);
-    scene::with(w, stream)
-}
-
 pub(crate) fn request(w: Scene, count: u32, memory: &[u8]) -> Scene {
     let s = w.stream;
+    let outgoing = s.outgoing;
+    let incoming = s.incoming;
+    let mut tally = s.tally;
+    let mut counts = s.counts;
     say::number(b" REQBUFS ", count);
-    let step = stream::request_buffers(s, count, w.size);
-    after(w, step, memory)
+    let answer = stream::request_buffers(&mut tally, &mut counts, count, w.size);
+    reply(answer, w.size, memory);
+    scene::with(w, tally, counts, incoming, outgoing)
 }
 
 pub(crate) fn enqueue(w: Scene, k: u32, memory: &[u8]) -> Scene {
     let s = w.stream;
+    let tally = s.tally;
+    let mut counts = s.counts;
+    let mut incoming = s.incoming;
+    let outgoing = s.outgoing;
     say::number(b" QBUF ", k);
-    let step = stream::enqueue(s, k);
-    after(w, step, memory)
+    let answer = stream::enqueue(&mut counts, &mut incoming, &outgoing, k);
+    reply(answer, w.size, memory);
+    scene::with(w, tally, counts, incoming, outgoing)
 }
 
 pub(crate) fn dequeue(w: Scene, memory: &[u8]) -> Scene {
     let s = w.stream;
+    let incoming = s.incoming;
+    let mut tally = s.tally;
+    let mut counts = s.counts;
+    let mut outgoing = s.outgoing;
     say::text(b" DQBUF");
-    let step = stream::dequeue(s);
-    after(w, step, memory)
+    let answer = stream::dequeue(&mut tally, &mut counts, &mut outgoing);
+    reply(answer, w.size, memory);
+    scene::with(w, tally, counts, incoming, outgoing)
 }
 
 pub(crate) fn start(w: Scene, memory: &[u8]) -> Scene {
     let s = w.stream;
+    let outgoing = s.outgoing;
+    let incoming = s.incoming;
+    let mut tally = s.tally;
+    let counts = s.counts;
     say::text(b" STREAMON");
-    let step = stream::start(s);
-    after(w, step, memory)
+    let answer = stream::start(&mut tally, &counts);
+    reply(answer, w.size, memory);
+    scene::with(w, tally, counts, incoming, outgoing)
 }
 
 pub(crate) fn stop(w: Scene, memory: &[u8]) -> Scene {
     let s = w.stream;
+    let outgoing = s.outgoing;
+    let incoming = s.incoming;
+    let mut tally = s.tally;
+    let mut counts = s.counts;
     say::text(b" STREAMOFF");
-    let step = stream::stop(s);
-    after(w, step, memory)
+    let answer = stream::stop(&mut tally, &mut counts);
+    reply(answer, w.size, memory);
+    scene::with(w, tally, counts, incoming, outgoing)
 }
 
 fn described(status: Status) {
@@ -96,8 +112,11 @@ fn described(status: Status) {
 
 pub(crate) fn query(w: Scene, k: u32) -> Scene {
     let s = w.stream;
+    let counts = s.counts;
+    let incoming = s.incoming;
+    let outgoing = s.outgoing;
     say::number(b" QUERYBUF ", k);
-    let q = status::query(s, k, w.size);
+    let q = status::query(&counts, &incoming, &outgoing, k, w.size);
     match q {
         Queried::Buffer(status) => described(status),
         Queried::Refused(why) => say::last(b": ", ioctl::errno(why)),
@@ -108,19 +127,20 @@ pub(crate) fn query(w: Scene, k: u32) -> Scene {
 // What became of the arrivals of the last run.
 pub(crate) fn record(w: Scene) -> Scene {
     let s = w.stream;
-    let run = s.run;
-    say::long(b" record: accepted ", run.accepted);
-    say::long(b" handed ", run.handed);
-    say::long(b" damaged ", run.damaged);
-    say::long(b" dropped ", run.dropped);
-    say::long(b" discarded ", run.discarded);
+    let tally = s.tally;
+    say::long(b" record: accepted ", tally[stream::ACCEPTED]);
+    say::long(b" handed ", tally[stream::HANDED]);
+    say::long(b" damaged ", tally[stream::DAMAGED]);
+    say::long(b" dropped ", tally[stream::DROPPED]);
+    say::long(b" discarded ", tally[stream::DISCARDED]);
     say::text(b";");
     w
 }
 
 pub(crate) fn verdict(w: Scene) -> Scene {
     let s = w.stream;
-    let v = status::film_verdict(s);
+    let tally = s.tally;
+    let v = status::film_verdict(&tally);
     match v {
         Verdict::Running => say::text(b" verdict: RUNNING;"),
         Verdict::Blank => say::text(b" verdict: BLANK;"),

@@ -40,10 +40,14 @@ fn clocked(w: Scene, second: u32) -> Scene {
 }
 
 fn near_limit(w: Scene) -> Scene {
-    let mut s = w.stream;
-    s.run.accepted = 4294967293;
+    let s = w.stream;
+    let outgoing = s.outgoing;
+    let incoming = s.incoming;
+    let counts = s.counts;
+    let mut tally = s.tally;
+    tally[stream::ACCEPTED] = 4294967293;
     say::text(b" accepted 4294967293;");
-    scene::with(w, s)
+    scene::with(w, tally, counts, incoming, outgoing)
 }
 
 fn setting(w: Scene, c: u8, n: u32) -> Scene {

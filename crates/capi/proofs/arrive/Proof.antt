@@ -1,10 +1,13 @@
--- The answer of the device, in numbers. Assumes nothing.
+-- The answer of the device, in numbers; the time from its bits. Assumes nothing.
+use mathlib.Core.Path.{ap, _∙_}
+use Rattle.arrival.specs.Answer.{toldOf}
+use Rattle.device.specs.Film.{Taken}
 use borrow.Author.Needs.{needs}
 use Rattle.capi.proofs.arrive.Statement.{statement}
 use Rattle.capi.proofs.arrive.Tie as tie
 
-time-requires : tie.Need-time-requires
-time-requires c κs = search needs
+time-of-requires : tie.Need-time-of-requires
+time-of-requires c κs = search needs
 
 arrive-requires : tie.Need-arrive-requires
 arrive-requires c κs = search needs
@@ -16,11 +19,12 @@ same-length : tie.Need-same-length
 same-length c = search needs
 
 returns : tie.Need-returns
-returns c =
-    let e = c .before .before .before .before .arrive .ensures in
-    let t = c .before .before .before .before .before .time .ensures in
-    (rw (c .before .answer-numbers .ensures, e .0, t), rw (← t) (e .1))
+returns c v =
+    let t = c .before .before .before .before .before .before .before .before .before .time-of .ensures in
+    let e = c .before .before .before .arrive .ensures v in
+    (rw (← t) (c .answer-numbers .ensures ∙ ap (λ (z : Taken). toldOf (z .arrival)) (e .0)), rw (← t) (ap (λ (z : Taken). z .state) (e .0)), rw (← t) (e .1))
 
 pub arrive-spec : {M : Type 1} → statement M
 arrive-spec =
-    tie.close (tie.spec time-requires arrive-requires answer-numbers-requires same-length returns)
+    tie.close
+    (tie.spec time-of-requires arrive-requires answer-numbers-requires same-length returns)

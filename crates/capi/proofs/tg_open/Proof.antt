@@ -43,13 +43,13 @@ use denote.Triple.Table.{entered, cited}
 use denote.Triple.Clauses.{ensured, lasts}
 use denote.Triple.Walked.{says, Stays, stay-ref, stay-dropped, gave-slice, walkOf, AllGo, goes-dropped, goes-ref, goes-gave-slice, Walks, ends-at, walked, walk-meets}
 use denote.Exit.{yes}
-use Rattle.device.specs.Opening.{openedOf}
+use Rattle.device.specs.Opening.{Opened, openedOf, madeAs}
 use Rattle.state.specs.declared.Device.{Device}
-use Rattle.device.specs.declared.Opened.{Opened}
+use Rattle.device.specs.declared.Made.{Made}
 use Rattle.state.proofs.Device as T
 use Rattle.state.proofs.Device.Laws as T′
-use Rattle.device.proofs.Opened as R
-use Rattle.device.proofs.Opened.Laws as R′
+use Rattle.device.proofs.Made as R
+use Rattle.device.proofs.Made.Laws as R′
 use Rattle.device.proofs.open_device as g
 use Rattle.device.proofs.open_device.Symbol as g-def
 use Rattle.device.proofs.open_device.Symbol.{name as #callee}
@@ -88,12 +88,12 @@ module _ {M : Type 1} (𝓤 : URA M) (H : Heap 𝓤) (A : Atoms 𝓤) (W : Given
   abbrev Post : Val → SProp 𝓤
   Post = walkOf 𝓤 H A f.ended stayed (f.clauses 𝓤 H A at-mem run) .post (((κ, (κ-p-sheet, tt)), (q, (q-p-sheet, tt)), tt, x, at), tt)
 
-  exits : (r : Opened) → r ≡ openedOf (p-sheet .now) p-picture → Is u32 (r .number) ((vint w32 (r .number)) ∷ [])
+  exits : (r : Made) → madeAs r ≡ openedOf (p-sheet .now) p-picture → Is u32 (r .number) ((vint w32 (r .number)) ∷ [])
       → ent 𝓤 (sep 𝓤 (A .obs γ (T.the-row .coded .code (r .device))) (sep 𝓤 (A .bor κ (Body (mem T.the-row) b o γ)) (sep 𝓤 (A .lft κ q) (sep 𝓤 (A .lft κ-p-sheet q-p-sheet) (sem 𝓤 H A ftrue))))) (Post (vint w32 (r .number)))
   exits r e is-r =
       qed W (‵ (fobs γ (T.the-row .coded .code (r .device))) ∷ ‵ (fbor κ (Body (mem T.the-row) b o γ)) ∷ ‵ (flft κ q) ∷ (‵ (flft κ-p-sheet q-p-sheet) ⊛ ‵ ftrue) ∷ []) ∵
       suffices ! _ (ends-at 𝓤 H A f.ended stayed (f.clauses 𝓤 H A at-mem run) W (((κ, (κ-p-sheet, tt)), (q, (q-p-sheet, tt)), tt, x, at), tt) (vint w32 (r .number)) (r .number) (r .device, (tt, (tt, tt))) (tt, (tt, (tt, tt)))) $
-      says ! (ap (λ (z : Opened). z .number) (e), ap (λ (z : Opened). z .device) (e)) $ move ! (2 ∷ 3 ∷ []) $ join ! $ frame ! $ feqI ! (List Val) (vptr b o ∷ []) (vptr b o ∷ []) refl $ fjoin3 ! $ nothing ! $ nothing ! $ fjoin ! $ nothing ! $ fjoin ! $ move ! (1 ∷ 0 ∷ []) $ fjoin ! $ frame ! $ owned ! u32 (Is u32) (uint-makes 𝓤 H A W w32) (r .number) _ is-r $ done !
+      says ! (ap (λ (z : Opened). z .number) e, ap (λ (z : Opened). z .device) e) $ move ! (2 ∷ 3 ∷ []) $ join ! $ frame ! $ feqI ! (List Val) (vptr b o ∷ []) (vptr b o ∷ []) refl $ fjoin3 ! $ nothing ! $ nothing ! $ fjoin ! $ nothing ! $ fjoin ! $ move ! (1 ∷ 0 ∷ []) $ fjoin ! $ frame ! $ owned ! u32 (Is u32) (uint-makes 𝓤 H A W w32) (r .number) _ is-r $ done !
 
   abbrev to-callee : Callee 𝓤 H A at-mem run .Ghost
   to-callee = (((κ-p-sheet, tt), (q-p-sheet, tt), tt, (p-sheet, (p-picture, tt)), (sliceVal (p-sheet .ptr) (length (p-sheet .now)) ∷ [], (vint w64 p-picture ∷ [], tt))), tt)
@@ -110,8 +110,8 @@ module _ {M : Type 1} (𝓤 : URA M) (H : Heap 𝓤) (A : Atoms 𝓤) (W : Given
         move ! (10 ∷ 11 ∷ 12 ∷ []) $ opens ! tt T.the-row {h = h} b o (λ vs. spelt ! T.the-row (Is T.the-row) (shows 𝓤 H A T.the-row) (LL.vals T.the-type T′.the-laws) (LL.tells T.the-type T′.the-laws) fullShare h vs b o $ move ! (1 ∷ []) $ peeks ! T.the-row (Is T.the-row) (shows 𝓤 H A T.the-row) h (LL.vals T.the-type T′.the-laws h) (λ was.
         move ! (18 ∷ 17 ∷ []) $ use2 W (raw (Callee 𝓤 H A at-mem run .pre to-callee)) (goes-callee was) $
         calls-at ! fm (Callee 𝓤 H A at-mem run) known to-callee (and-then ! (load ! (from ! (stop !)) (look ! 10 refl)) (and-then ! (load ! (from ! (stop !)) (look ! 8 refl)) (no-more !))) (λ v.
-        use1 W (later (some (λ (r : Opened). ((‵ (flft κ-p-sheet q-p-sheet) ⊛ ‵ ftrue) ⊛ ‵ (R.the-row .own r (v ∷ []))) ⊛ raw (ensured 𝓤 H A g.ended (g.clauses 𝓤 H A at-mem run) (κ-p-sheet, tt) (p-sheet, (p-picture, tt)) tt r)))) (id⊢ 𝓤 _) $ await ! tt $ pick ! (λ r. split ! $
-        move ! (1 ∷ []) $ use1 W (some (λ (zs : (Unit {0} × (Unit {0} × Unit {0}))). ‵ (lasts g.ended (κ-p-sheet, tt) (p-sheet, (p-picture, tt)) zs) ⊛ raw (fact 𝓤 (r ≡ openedOf (p-sheet .now) p-picture)))) (id⊢ 𝓤 _) $ pick ! (λ zs. split ! $ move ! (1 ∷ []) $ heard ! (r ≡ openedOf (p-sheet .now) p-picture) (λ e.
+        use1 W (later (some (λ (r : Made). ((‵ (flft κ-p-sheet q-p-sheet) ⊛ ‵ ftrue) ⊛ ‵ (R.the-row .own r (v ∷ []))) ⊛ raw (ensured 𝓤 H A g.ended (g.clauses 𝓤 H A at-mem run) (κ-p-sheet, tt) (p-sheet, (p-picture, tt)) tt r)))) (id⊢ 𝓤 _) $ await ! tt $ pick ! (λ r. split ! $
+        move ! (1 ∷ []) $ use1 W (some (λ (zs : (Unit {0} × (Unit {0} × Unit {0}))). ‵ (lasts g.ended (κ-p-sheet, tt) (p-sheet, (p-picture, tt)) zs) ⊛ raw (fact 𝓤 (madeAs r ≡ openedOf (p-sheet .now) p-picture)))) (id⊢ 𝓤 _) $ pick ! (λ zs. split ! $ move ! (1 ∷ []) $ heard ! (madeAs r ≡ openedOf (p-sheet .now) p-picture) (λ e.
         move ! (0 ∷ []) $ fsplit ! $ move ! (1 ∷ []) $ fsplit ! $ move ! (3 ∷ []) $ split ! $ move ! (1 ∷ []) $ peeks ! R.the-row (Is R.the-row) (shows 𝓤 H A R.the-row) r (v ∷ []) (λ is.
         let parts = LL.owed R.the-type R′.the-laws r (v ∷ []) is in
         land ! (from ! (stop !)) (init ! 10 refl (LL.lawful R.the-type R′.the-laws 𝓤 H A W .typed r _ is .0)) $

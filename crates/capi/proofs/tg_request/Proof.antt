@@ -32,7 +32,7 @@ use types.Share.{arr-parts}
 use denote.Memory.{mem, shares, partAt, partOf, cellAt, part-halves}
 use denote.Plain.{uint-vals, uint-tells, uint-makes, uint-lawful, bool-vals, bool-tells, bool-makes, bool-lawful}
 use denote.Signed.{sint-vals, sint-tells, sint-makes, sint-lawful}
-use denote.Builtin.{u32, u8}
+use denote.Builtin.{u32, u64, u8}
 use denote.Array.{Array}
 use denote.Ref.{RefT, MutRef, ShrRef, ptr-vals, mut-tells, shr-tells}
 use denote.Slice.{sliceVal, MutSlice, ShrSlice, finally, slice-vals, mut-slice-tells, shr-slice-tells}
@@ -55,17 +55,20 @@ use denote.Triple.Walked.{says, needs, Stays, stay-ref, stay-none-ref, stay-drop
 use denote.Exit.{yes}
 use denote.Struct.Laws as LL
 use Rattle.capi.proofs.Fields.{big-lit, membersOf, map-same, part-open, part-shut, lends-shr-array, shr-array-back}
+use Rattle.buffers.specs.Queues.{entriesOf}
+use Rattle.stream.specs.Stream.{streamOf}
+use Rattle.state.specs.State.{stateOf}
 use Rattle.state.specs.Answers.{Answer, answerOf}
 use Rattle.device.specs.Request.{requestAnswer}
 use Rattle.state.specs.declared.Answered.{Answered}
 use Rattle.state.specs.declared.Device.{Device}
-use Rattle.state.specs.declared.State.{State}
+use Rattle.state.specs.declared.Setup.{Setup}
 use Rattle.state.proofs.Device as T
 use Rattle.state.proofs.Device.Laws as T′
 use Rattle.state.proofs.Answered as R
 use Rattle.state.proofs.Answered.Laws as R′
-use Rattle.state.proofs.State as S-State
-use Rattle.state.proofs.State.Laws as S-State′
+use Rattle.state.proofs.Setup as S-Setup
+use Rattle.state.proofs.Setup.Laws as S-Setup′
 use Rattle.device.proofs.request as g
 use Rattle.device.proofs.request.Symbol as g-def
 use Rattle.device.proofs.request.Symbol.{name as #callee}
@@ -114,55 +117,75 @@ module _ {M : Type 1} (𝓤 : URA M) (H : Heap 𝓤) (A : Atoms 𝓤) (W : Given
   together t h′ = via 𝓤 (sep 𝓤 (PartsBack 𝓤 H A t (T.the-type .name) members b o) (sem 𝓤 H A (partsAt t members 0 (T.the-type .to h′) b o))) (comm∗ 𝓤 (sem 𝓤 H A (partsAt t members 0 (T.the-type .to h′) b o)) (PartsBack 𝓤 H A t (T.the-type .name) members b o))
       (wandE 𝓤 (PartsBack 𝓤 H A t (T.the-type .name) members b o) (sem 𝓤 H A (partsAt t members 0 (T.the-type .to h′) b o)) (sem 𝓤 H A (partAt T.the-row t h′ b o)) (allE 𝓤 (λ (a′ : Denots (rowsOf members)). wand 𝓤 (sem 𝓤 H A (partsAt t members 0 a′ b o)) (sem 𝓤 H A (partAt (Struct (shapeOf (T.the-type .name) members)) t a′ b o))) (T.the-type .to h′)))
 
-  exits : (r : Answered) (z-p-argument : List ℕ) → answerOf r z-p-argument ≡ requestAnswer (h .sheet) (h .state) p-word (p-argument .now) → length z-p-argument ≡ length (p-argument .now) → Is u32 (r .number) (vint w32 (r .number) ∷ [])
-      → ent 𝓤 (sep 𝓤 (A .obs γ (T.the-row .coded .code (record { sheet = h .sheet; state = r .state }))) (sep 𝓤 (A .bor κ (Body (mem T.the-row) b o γ)) (sep 𝓤 (A .lft κ q) (sep 𝓤 (A .lft κ-p-argument q-p-argument) (sem 𝓤 H A (finally u8 (p-argument .name) z-p-argument)))))) (Post (vint w32 (r .number)))
-  exits r z-p-argument e l-p-argument is-r =
-      qed W (‵ (fobs γ (T.the-row .coded .code (record { sheet = h .sheet; state = r .state }))) ∷ ‵ (fbor κ (Body (mem T.the-row) b o γ)) ∷ ‵ (flft κ q) ∷ ‵ (flft κ-p-argument q-p-argument) ∷ ‵ (finally u8 (p-argument .name) z-p-argument) ∷ []) ∵
-      suffices ! _ (ends-at 𝓤 H A f.ended stayed (f.clauses 𝓤 H A at-mem run) W (((κ, (κ-p-argument, tt)), (q, (q-p-argument, tt)), tt, x, at), tt) (vint w32 (r .number)) (r .number) ((record { sheet = h .sheet; state = r .state }), (tt, (z-p-argument, tt))) (tt, (tt, (l-p-argument, tt)))) $
+  exits : (r : Answered) (z-values : List ℕ) (z-tally : List ℕ) (z-counts : List ℕ) (z-incoming : List ℕ) (z-outgoing : List ℕ) (z-p-argument : List ℕ) → answerOf r z-values (streamOf z-tally z-counts z-incoming (entriesOf 32 z-outgoing)) z-p-argument ≡ requestAnswer (h .sheet) (stateOf (h .setup) (h .values) (streamOf (h .tally) (h .counts) (h .incoming) (entriesOf 32 (h .outgoing)))) p-word (p-argument .now) → length z-p-argument ≡ length (p-argument .now) → Is u32 (r .number) (vint w32 (r .number) ∷ [])
+      → ent 𝓤 (sep 𝓤 (A .obs γ (T.the-row .coded .code (record { sheet = h .sheet; setup = r .setup; values = z-values; tally = z-tally; counts = z-counts; incoming = z-incoming; outgoing = z-outgoing }))) (sep 𝓤 (A .bor κ (Body (mem T.the-row) b o γ)) (sep 𝓤 (A .lft κ q) (sep 𝓤 (A .lft κ-p-argument q-p-argument) (sem 𝓤 H A (finally u8 (p-argument .name) z-p-argument)))))) (Post (vint w32 (r .number)))
+  exits r z-values z-tally z-counts z-incoming z-outgoing z-p-argument e l-p-argument is-r =
+      qed W (‵ (fobs γ (T.the-row .coded .code (record { sheet = h .sheet; setup = r .setup; values = z-values; tally = z-tally; counts = z-counts; incoming = z-incoming; outgoing = z-outgoing }))) ∷ ‵ (fbor κ (Body (mem T.the-row) b o γ)) ∷ ‵ (flft κ q) ∷ ‵ (flft κ-p-argument q-p-argument) ∷ ‵ (finally u8 (p-argument .name) z-p-argument) ∷ []) ∵
+      suffices ! _ (ends-at 𝓤 H A f.ended stayed (f.clauses 𝓤 H A at-mem run) W (((κ, (κ-p-argument, tt)), (q, (q-p-argument, tt)), tt, x, at), tt) (vint w32 (r .number)) (r .number) ((record { sheet = h .sheet; setup = r .setup; values = z-values; tally = z-tally; counts = z-counts; incoming = z-incoming; outgoing = z-outgoing }), (tt, (z-p-argument, tt))) (tt, (tt, (l-p-argument, tt)))) $
       says ! ((ap (λ (z : Answer). z .number) e), (ap (λ (z : Answer). z .state) e), refl, (ap (λ (z : Answer). z .argument) e)) $ nothing ! $ move ! (4 ∷ 0 ∷ []) $ join ! $ move ! (3 ∷ 0 ∷ []) $ join ! $ frame ! $ move ! (0 ∷ 1 ∷ []) $ feqI ! (List Val) (vptr b o ∷ []) (vptr b o ∷ []) refl $ fjoin3 ! $ nothing ! $ move ! (2 ∷ 0 ∷ []) $ fjoin ! $ nothing ! $ fjoin ! $ move ! (1 ∷ 0 ∷ []) $ fjoin ! $ frame ! $ owned ! u32 (Is u32) (uint-makes 𝓤 H A W w32) (r .number) _ is-r $ done !
 
-  abbrev to-callee : (ν-sheet : ℕ) (δ-sheet : GName) → Callee 𝓤 H A at-mem run .Ghost
-  to-callee ν-sheet δ-sheet = (((ν-sheet ∷ [], (κ-p-argument, tt)), (fullShare, (q-p-argument, tt)), tt, (record { ptr = (b, o + 0); name = δ-sheet; now = h .sheet }, (h .state, (p-word, (p-argument, tt)))), (sliceVal (b, o + 0) 2688 ∷ [], (LL.val S-State.the-type S-State′.the-laws (h .state) ∷ [], (vint w32 (p-word) ∷ [], (sliceVal (p-argument .ptr) (length (p-argument .now)) ∷ [], tt))))), tt)
+  abbrev to-callee : (ν-sheet : ℕ) (ν-values : ℕ) (ν-tally : ℕ) (ν-counts : ℕ) (ν-incoming : ℕ) (ν-outgoing : ℕ) (δ-sheet : GName) (δ-values : GName) (δ-tally : GName) (δ-counts : GName) (δ-incoming : GName) (δ-outgoing : GName) → Callee 𝓤 H A at-mem run .Ghost
+  to-callee ν-sheet ν-values ν-tally ν-counts ν-incoming ν-outgoing δ-sheet δ-values δ-tally δ-counts δ-incoming δ-outgoing = (((ν-sheet ∷ [], (ν-values ∷ [], (ν-tally ∷ [], (ν-counts ∷ [], (ν-incoming ∷ [], (ν-outgoing ∷ [], (κ-p-argument, tt))))))), (fullShare, (fullShare, (fullShare, (fullShare, (fullShare, (fullShare, (q-p-argument, tt))))))), tt, (record { ptr = (b, o + 0); name = δ-sheet; now = h .sheet }, (h .setup, (record { ptr = (b, o + 2720); name = δ-values; now = h .values }, (record { ptr = (b, o + 2848); name = δ-tally; now = h .tally }, (record { ptr = (b, o + 2912); name = δ-counts; now = h .counts }, (record { ptr = (b, o + 2924); name = δ-incoming; now = h .incoming }, (record { ptr = (b, o + 3052); name = δ-outgoing; now = h .outgoing }, (p-word, (p-argument, tt))))))))), (sliceVal (b, o + 0) 2688 ∷ [], (LL.val S-Setup.the-type S-Setup′.the-laws (h .setup) ∷ [], (vptr b (o + 2720) ∷ [], (vptr b (o + 2848) ∷ [], (vptr b (o + 2912) ∷ [], (vptr b (o + 2924) ∷ [], (vptr b (o + 3052) ∷ [], (vint w32 (p-word) ∷ [], (sliceVal (p-argument .ptr) (length (p-argument .now)) ∷ [], tt)))))))))), tt)
 
-  goes-callee : (ν-sheet : ℕ) (δ-sheet : GName) → Is S-State.the-row (h .state) (LL.val S-State.the-type S-State′.the-laws (h .state) ∷ []) → ent 𝓤 (sep 𝓤 (A .lft (ν-sheet ∷ []) fullShare) (sep 𝓤 (A .lft (κ-p-argument) q-p-argument) (sep 𝓤 (sem 𝓤 H A ((ShrSlice (named 0) (ν-sheet ∷ []) u8) .own (record { ptr = (b, o + 0); name = δ-sheet; now = h .sheet }) (sliceVal (b, o + 0) 2688 ∷ []))) (sem 𝓤 H A ((MutSlice (named 1) κ-p-argument u8) .own p-argument (sliceVal (p-argument .ptr) (length (p-argument .now)) ∷ [])))))) (Callee 𝓤 H A at-mem run .pre (to-callee ν-sheet δ-sheet))
-  goes-callee ν-sheet δ-sheet was-state =
-      qed W (‵ (flft (ν-sheet ∷ []) fullShare) ∷ ‵ (flft (κ-p-argument) q-p-argument) ∷ ‵ ((ShrSlice (named 0) (ν-sheet ∷ []) u8) .own (record { ptr = (b, o + 0); name = δ-sheet; now = h .sheet }) (sliceVal (b, o + 0) 2688 ∷ [])) ∷ ‵ ((MutSlice (named 1) κ-p-argument u8) .own p-argument (sliceVal (p-argument .ptr) (length (p-argument .now)) ∷ [])) ∷ []) ∵ nothing ! $ move ! (4 ∷ 0 ∷ []) $ fjoin ! $ owned ! u32 (Is u32) (uint-makes 𝓤 H A W w32) p-word _ is-p-word $ fjoin ! $ owned ! S-State.the-row (Is S-State.the-row) ((LL.makes S-State.the-type S-State′.the-plain) 𝓤 H A) (h .state) _ was-state $ fjoin ! $ move ! (3 ∷ 0 ∷ []) $ fjoin ! $ nothing ! $ move ! (3 ∷ 0 ∷ []) $ join ! $ move ! (2 ∷ 0 ∷ []) $ join ! $ move ! (0 ∷ 1 ∷ []) $ join ! $ frame ! $ done !
+  goes-callee : (ν-sheet : ℕ) (ν-values : ℕ) (ν-tally : ℕ) (ν-counts : ℕ) (ν-incoming : ℕ) (ν-outgoing : ℕ) (δ-sheet : GName) (δ-values : GName) (δ-tally : GName) (δ-counts : GName) (δ-incoming : GName) (δ-outgoing : GName) → Is S-Setup.the-row (h .setup) (LL.val S-Setup.the-type S-Setup′.the-laws (h .setup) ∷ []) → ent 𝓤 (sep 𝓤 (A .lft (ν-sheet ∷ []) fullShare) (sep 𝓤 (A .lft (ν-values ∷ []) fullShare) (sep 𝓤 (A .lft (ν-tally ∷ []) fullShare) (sep 𝓤 (A .lft (ν-counts ∷ []) fullShare) (sep 𝓤 (A .lft (ν-incoming ∷ []) fullShare) (sep 𝓤 (A .lft (ν-outgoing ∷ []) fullShare) (sep 𝓤 (A .lft (κ-p-argument) q-p-argument) (sep 𝓤 (sem 𝓤 H A ((ShrSlice (named 0) (ν-sheet ∷ []) u8) .own (record { ptr = (b, o + 0); name = δ-sheet; now = h .sheet }) (sliceVal (b, o + 0) 2688 ∷ []))) (sep 𝓤 (sem 𝓤 H A ((MutRef (named 1) (ν-values ∷ []) (Array u32 32)) .own (record { ptr = (b, o + 2720); name = δ-values; now = h .values }) (vptr b (o + 2720) ∷ []))) (sep 𝓤 (sem 𝓤 H A ((MutRef (named 2) (ν-tally ∷ []) (Array u64 8)) .own (record { ptr = (b, o + 2848); name = δ-tally; now = h .tally }) (vptr b (o + 2848) ∷ []))) (sep 𝓤 (sem 𝓤 H A ((MutRef (named 3) (ν-counts ∷ []) (Array u32 3)) .own (record { ptr = (b, o + 2912); name = δ-counts; now = h .counts }) (vptr b (o + 2912) ∷ []))) (sep 𝓤 (sem 𝓤 H A ((MutRef (named 4) (ν-incoming ∷ []) (Array u32 32)) .own (record { ptr = (b, o + 2924); name = δ-incoming; now = h .incoming }) (vptr b (o + 2924) ∷ []))) (sep 𝓤 (sem 𝓤 H A ((MutRef (named 5) (ν-outgoing ∷ []) (Array u32 160)) .own (record { ptr = (b, o + 3052); name = δ-outgoing; now = h .outgoing }) (vptr b (o + 3052) ∷ []))) (sem 𝓤 H A ((MutSlice (named 6) κ-p-argument u8) .own p-argument (sliceVal (p-argument .ptr) (length (p-argument .now)) ∷ [])))))))))))))))) (Callee 𝓤 H A at-mem run .pre (to-callee ν-sheet ν-values ν-tally ν-counts ν-incoming ν-outgoing δ-sheet δ-values δ-tally δ-counts δ-incoming δ-outgoing))
+  goes-callee ν-sheet ν-values ν-tally ν-counts ν-incoming ν-outgoing δ-sheet δ-values δ-tally δ-counts δ-incoming δ-outgoing was-setup =
+      qed W (‵ (flft (ν-sheet ∷ []) fullShare) ∷ ‵ (flft (ν-values ∷ []) fullShare) ∷ ‵ (flft (ν-tally ∷ []) fullShare) ∷ ‵ (flft (ν-counts ∷ []) fullShare) ∷ ‵ (flft (ν-incoming ∷ []) fullShare) ∷ ‵ (flft (ν-outgoing ∷ []) fullShare) ∷ ‵ (flft (κ-p-argument) q-p-argument) ∷ ‵ ((ShrSlice (named 0) (ν-sheet ∷ []) u8) .own (record { ptr = (b, o + 0); name = δ-sheet; now = h .sheet }) (sliceVal (b, o + 0) 2688 ∷ [])) ∷ ‵ ((MutRef (named 1) (ν-values ∷ []) (Array u32 32)) .own (record { ptr = (b, o + 2720); name = δ-values; now = h .values }) (vptr b (o + 2720) ∷ [])) ∷ ‵ ((MutRef (named 2) (ν-tally ∷ []) (Array u64 8)) .own (record { ptr = (b, o + 2848); name = δ-tally; now = h .tally }) (vptr b (o + 2848) ∷ [])) ∷ ‵ ((MutRef (named 3) (ν-counts ∷ []) (Array u32 3)) .own (record { ptr = (b, o + 2912); name = δ-counts; now = h .counts }) (vptr b (o + 2912) ∷ [])) ∷ ‵ ((MutRef (named 4) (ν-incoming ∷ []) (Array u32 32)) .own (record { ptr = (b, o + 2924); name = δ-incoming; now = h .incoming }) (vptr b (o + 2924) ∷ [])) ∷ ‵ ((MutRef (named 5) (ν-outgoing ∷ []) (Array u32 160)) .own (record { ptr = (b, o + 3052); name = δ-outgoing; now = h .outgoing }) (vptr b (o + 3052) ∷ [])) ∷ ‵ ((MutSlice (named 6) κ-p-argument u8) .own p-argument (sliceVal (p-argument .ptr) (length (p-argument .now)) ∷ [])) ∷ []) ∵ nothing ! $ move ! (14 ∷ 0 ∷ []) $ fjoin ! $ owned ! u32 (Is u32) (uint-makes 𝓤 H A W w32) p-word _ is-p-word $ fjoin ! $ move ! (13 ∷ 0 ∷ []) $ fjoin ! $ move ! (12 ∷ 0 ∷ []) $ fjoin ! $ move ! (11 ∷ 0 ∷ []) $ fjoin ! $ move ! (10 ∷ 0 ∷ []) $ fjoin ! $ move ! (9 ∷ 0 ∷ []) $ fjoin ! $ owned ! S-Setup.the-row (Is S-Setup.the-row) ((LL.makes S-Setup.the-type S-Setup′.the-plain) 𝓤 H A) (h .setup) _ was-setup $ fjoin ! $ move ! (8 ∷ 0 ∷ []) $ fjoin ! $ nothing ! $ move ! (8 ∷ 0 ∷ []) $ join ! $ move ! (7 ∷ 0 ∷ []) $ join ! $ move ! (6 ∷ 0 ∷ []) $ join ! $ move ! (5 ∷ 0 ∷ []) $ join ! $ move ! (4 ∷ 0 ∷ []) $ join ! $ move ! (3 ∷ 0 ∷ []) $ join ! $ move ! (2 ∷ 0 ∷ []) $ join ! $ move ! (0 ∷ 1 ∷ []) $ join ! $ frame ! $ done !
 
   module _ (C : Calls 𝓤 H) (Λ : Loops 𝓤 H) (fm : FmC 𝓤 H (W .laws) C) (known : Triple 𝓤 (C #callee) (Callee 𝓤 H A at-mem run)) where
     walk : ent 𝓤 (onEntry 𝓤 H A f.signature (κ, (κ-p-argument, tt)) (q, (q-p-argument, tt)) x at) (WpFn 𝓤 H C Λ code.function (vptr b o ∷ vint w32 (p-word) ∷ sliceVal (p-argument .ptr) (length (p-argument .now)) ∷ []) Post)
     walk =
         qed W ((‵ (flft κ q) ⊛ (‵ (flft κ-p-argument q-p-argument) ⊛ ‵ ftrue)) ∷ ‵ (owns (MutRef (named 0) κ T.the-row ∷ u32 ∷ MutSlice (named 1) κ-p-argument u8 ∷ []) x at) ∷ []) ∵ move ! (0 ∷ []) $ split ! $ move ! (1 ∷ []) $ split ! $ move ! (1 ∷ []) $ drop ! $ move ! (2 ∷ []) $ fsplit ! $ move ! (1 ∷ []) $ fsplit ! $ move ! (1 ∷ []) $ fsplit ! $ move ! (1 ∷ []) $ drop ! $ move ! (1 ∷ []) $ drop ! $ move ! (1 ∷ []) $ fsplit3 ! $ drop ! $
-        enter ! C Λ code.function (vptr b o ∷ vint w32 (p-word) ∷ sliceVal (p-argument .ptr) (length (p-argument .now)) ∷ []) _ $ alloc1 ! (λ l0. alloc1 ! (λ l1. alloc1 ! (λ l2. alloc1 ! (λ l3. alloc1 ! (λ l4. alloc1 ! (λ l5. alloc1 ! (λ l6. alloc1 ! (λ l7. alloc1 ! (λ l8. alloc1 ! (λ l9. alloc0 ! $ params1 ! $ pass1 ! (init ! 16 refl (tt, tt)) $ pass1 ! (init ! 14 refl (uint-lawful 𝓤 H A W w32 .typed (p-word) _ is-p-word .0)) $ pass1 ! (init ! 12 refl (tt, (tt, (record { fits = is-p-argument .0 .1 .0 }, tt)))) $ pass0 ! $
+        enter ! C Λ code.function (vptr b o ∷ vint w32 (p-word) ∷ sliceVal (p-argument .ptr) (length (p-argument .now)) ∷ []) _ $ alloc1 ! (λ l0. alloc1 ! (λ l1. alloc1 ! (λ l2. alloc1 ! (λ l3. alloc1 ! (λ l4. alloc1 ! (λ l5. alloc1 ! (λ l6. alloc1 ! (λ l7. alloc1 ! (λ l8. alloc1 ! (λ l9. alloc1 ! (λ l10. alloc1 ! (λ l11. alloc1 ! (λ l12. alloc1 ! (λ l13. alloc1 ! (λ l14. alloc0 ! $ params1 ! $ pass1 ! (init ! 26 refl (tt, tt)) $ pass1 ! (init ! 24 refl (uint-lawful 𝓤 H A W w32 .typed (p-word) _ is-p-word .0)) $ pass1 ! (init ! 22 refl (tt, (tt, (record { fits = is-p-argument .0 .1 .0 }, tt)))) $ pass0 ! $
         -- the struct, taken apart into its fields
-        move ! (20 ∷ 21 ∷ 24 ∷ []) $ open-ref ! tt (mem T.the-row) {x = h} {b = b} {o = o} $ move ! (0 ∷ []) $ use1 W (‵ (partsAt fullShare members 0 (T.the-type .to h) b o) ⊛ raw (PartsBack 𝓤 H A fullShare (T.the-type .name) members b o)) (apart fullShare) $ split ! $ move ! (0 ∷ []) $ fsplit ! $ move ! (1 ∷ []) $ fsplit ! $ move ! (1 ∷ []) $ drop ! $
-        move ! (0 ∷ []) $ use1 W (some (λ (vs : List Val). ‵ (cellAt fullShare (S-State.the-row .mir) vs b (o + 2688)) ⊛ ‵ (S-State.the-row .own (h .state) vs))) (part-open 𝓤 H A (field S-State.the-type .row) fullShare (S-State.the-type .to (h .state)) b (o + 2688)) $ pick ! (λ vs-state. split ! $ spelt ! S-State.the-row (Is S-State.the-row) (shows 𝓤 H A S-State.the-row) (LL.vals S-State.the-type S-State′.the-laws) (LL.tells S-State.the-type S-State′.the-laws) fullShare (h .state) vs-state b (o + 2688) $ move ! (1 ∷ []) $ peeks ! S-State.the-row (Is S-State.the-row) (shows 𝓤 H A S-State.the-row) (h .state) (LL.vals S-State.the-type S-State′.the-laws (h .state)) (λ was-state. move ! (0 ∷ []) $ drop ! $
-        rewrite ! 1 (λ (u : List ℕ). ‵ (partAt (Array u8 2688) fullShare u b (o + 0))) (map-same (h .sheet)) refl $
+        move ! (30 ∷ 31 ∷ 34 ∷ []) $ open-ref ! tt (mem T.the-row) {x = h} {b = b} {o = o} $ move ! (0 ∷ []) $ use1 W (‵ (partsAt fullShare members 0 (T.the-type .to h) b o) ⊛ raw (PartsBack 𝓤 H A fullShare (T.the-type .name) members b o)) (apart fullShare) $ split ! $ move ! (0 ∷ []) $ fsplit ! $ move ! (1 ∷ []) $ fsplit ! $ move ! (1 ∷ []) $ fsplit ! $ move ! (1 ∷ []) $ fsplit ! $ move ! (1 ∷ []) $ fsplit ! $ move ! (1 ∷ []) $ fsplit ! $ move ! (1 ∷ []) $ fsplit ! $ move ! (1 ∷ []) $ drop ! $
+        move ! (5 ∷ []) $ use1 W (some (λ (vs : List Val). ‵ (cellAt fullShare (S-Setup.the-row .mir) vs b (o + 2688)) ⊛ ‵ (S-Setup.the-row .own (h .setup) vs))) (part-open 𝓤 H A (field S-Setup.the-type .row) fullShare (S-Setup.the-type .to (h .setup)) b (o + 2688)) $ pick ! (λ vs-setup. split ! $ spelt ! S-Setup.the-row (Is S-Setup.the-row) (shows 𝓤 H A S-Setup.the-row) (LL.vals S-Setup.the-type S-Setup′.the-laws) (LL.tells S-Setup.the-type S-Setup′.the-laws) fullShare (h .setup) vs-setup b (o + 2688) $ move ! (1 ∷ []) $ peeks ! S-Setup.the-row (Is S-Setup.the-row) (shows 𝓤 H A S-Setup.the-row) (h .setup) (LL.vals S-Setup.the-type S-Setup′.the-laws (h .setup)) (λ was-setup. move ! (0 ∷ []) $ drop ! $
+        rewrite ! 6 (λ (u : List ℕ). ‵ (partAt (Array u8 2688) fullShare u b (o + 0))) (map-same (h .sheet)) refl $
+        rewrite ! 5 (λ (u : List ℕ). ‵ (partAt (Array u32 32) fullShare u b (o + 2720))) (map-same (h .values)) refl $
+        rewrite ! 4 (λ (u : List ℕ). ‵ (partAt (Array u64 8) fullShare u b (o + 2848))) (map-same (h .tally)) refl $
+        rewrite ! 3 (λ (u : List ℕ). ‵ (partAt (Array u32 3) fullShare u b (o + 2912))) (map-same (h .counts)) refl $
+        rewrite ! 2 (λ (u : List ℕ). ‵ (partAt (Array u32 32) fullShare u b (o + 2924))) (map-same (h .incoming)) refl $
+        rewrite ! 1 (λ (u : List ℕ). ‵ (partAt (Array u32 160) fullShare u b (o + 3052))) (map-same (h .outgoing)) refl $
         -- the arguments
-        assigns ! (addr ! (from ! (hop ! (look ! 22 refl) (fld ! {d = 0} refl (stop !))))) (from ! (stop !)) (init ! 14 refl (tt, tt)) $
-        assigns ! (agg ! (and-then ! (load ! (from ! (stop !)) (look ! 14 refl)) (and-then ! (big-lit ! (record { fits = lit< tt })) (no-more !)))) (from ! (stop !)) (init ! 12 refl (tt, (tt, (record { fits = lit< tt }, tt)))) $
-        assigns ! (of-opd ! (load ! (from ! (hop ! (look ! 22 refl) (fld ! {d = 2688} refl (stop !)))) (look-raw ! 0 refl))) (from ! (stop !)) (init ! 10 refl (LL.lawful S-State.the-type S-State′.the-laws 𝓤 H A W .typed (h .state) _ was-state .0)) $
-        assigns ! (addr ! (from ! (fld ! refl (hop ! (look-in ! 18 (sub ! 0 refl (whole !))) (stop !))))) (from ! (stop !)) (init ! 8 refl (tt, tt)) $
-        assigns ! (agg ! (and-then ! (load ! (from ! (stop !)) (look ! 8 refl)) (and-then ! (load ! (from ! (fld ! refl (stop !))) (look-in ! 18 (sub ! 1 refl (whole !)))) (no-more !)))) (from ! (stop !)) (init ! 6 refl (tt, (tt, (record { fits = is-p-argument .0 .1 .0 }, tt)))) $
+        assigns ! (addr ! (from ! (hop ! (look ! 37 refl) (fld ! {d = 0} refl (stop !))))) (from ! (stop !)) (init ! 29 refl (tt, tt)) $
+        assigns ! (agg ! (and-then ! (load ! (from ! (stop !)) (look ! 29 refl)) (and-then ! (big-lit ! (record { fits = lit< tt })) (no-more !)))) (from ! (stop !)) (init ! 27 refl (tt, (tt, (record { fits = lit< tt }, tt)))) $
+        assigns ! (of-opd ! (load ! (from ! (hop ! (look ! 37 refl) (fld ! {d = 2688} refl (stop !)))) (look-raw ! 0 refl))) (from ! (stop !)) (init ! 25 refl (LL.lawful S-Setup.the-type S-Setup′.the-laws 𝓤 H A W .typed (h .setup) _ was-setup .0)) $
+        assigns ! (addr ! (from ! (hop ! (look ! 37 refl) (fld ! {d = 2720} refl (stop !))))) (from ! (stop !)) (init ! 23 refl (tt, tt)) $
+        assigns ! (addr ! (from ! (hop ! (look ! 37 refl) (fld ! {d = 2848} refl (stop !))))) (from ! (stop !)) (init ! 21 refl (tt, tt)) $
+        assigns ! (addr ! (from ! (hop ! (look ! 37 refl) (fld ! {d = 2912} refl (stop !))))) (from ! (stop !)) (init ! 19 refl (tt, tt)) $
+        assigns ! (addr ! (from ! (hop ! (look ! 37 refl) (fld ! {d = 2924} refl (stop !))))) (from ! (stop !)) (init ! 17 refl (tt, tt)) $
+        assigns ! (addr ! (from ! (hop ! (look ! 37 refl) (fld ! {d = 3052} refl (stop !))))) (from ! (stop !)) (init ! 15 refl (tt, tt)) $
+        assigns ! (addr ! (from ! (fld ! refl (hop ! (look-in ! 33 (sub ! 0 refl (whole !))) (stop !))))) (from ! (stop !)) (init ! 13 refl (tt, tt)) $
+        assigns ! (agg ! (and-then ! (load ! (from ! (stop !)) (look ! 13 refl)) (and-then ! (load ! (from ! (fld ! refl (stop !))) (look-in ! 33 (sub ! 1 refl (whole !)))) (no-more !)))) (from ! (stop !)) (init ! 11 refl (tt, (tt, (record { fits = is-p-argument .0 .1 .0 }, tt)))) $
         -- each array is lent for a lifetime of the call
-        lft-new ! tt (λ ν-sheet. move ! (2 ∷ []) $ use1 W (later (some (λ (δ-sheet : GName). ‵ ((ShrSlice (named 0) (ν-sheet ∷ []) u8) .own (record { ptr = (b, o + 0); name = δ-sheet; now = h .sheet }) (sliceVal (b, o + 0) 2688 ∷ [])) ⊛ ‵ (flent (ν-sheet ∷ []) (arr-parts (shares u8) 2688 .part fullShare (h .sheet) b (o + 0)))))) (lends-shr-array 𝓤 H A W u8 (named 0) (ν-sheet ∷ []) fullShare 2688 (h .sheet) b (o + 0) tt (lit< tt, lit< tt)) $ await ! tt $ pick ! (λ δ-sheet. split ! $
-        move ! (2 ∷ 29 ∷ 0 ∷ 28 ∷ []) $ group ! 4 $ use1 W (raw (Callee 𝓤 H A at-mem run .pre (to-callee ν-sheet δ-sheet))) (goes-callee ν-sheet δ-sheet was-state) $
-        calls-at ! fm (Callee 𝓤 H A at-mem run) known (to-callee ν-sheet δ-sheet) (and-then ! (load ! (from ! (stop !)) (look ! 13 refl)) (and-then ! (load ! (from ! (stop !)) (look ! 11 refl)) (and-then ! (load ! (from ! (stop !)) (look ! 21 refl)) (and-then ! (load ! (from ! (stop !)) (look ! 7 refl)) (no-more !))))) (λ v.
-        use1 W (later (some (λ (r : Answered). ((‵ (flft (ν-sheet ∷ []) fullShare) ⊛ (‵ (flft (κ-p-argument) q-p-argument) ⊛ ‵ ftrue)) ⊛ ‵ (R.the-row .own r (v ∷ []))) ⊛ raw (ensured 𝓤 H A g.ended (g.clauses 𝓤 H A at-mem run) (ν-sheet ∷ [], (κ-p-argument, tt)) (record { ptr = (b, o + 0); name = δ-sheet; now = h .sheet }, (h .state, (p-word, (p-argument, tt)))) tt r)))) (id⊢ 𝓤 _) $ await ! tt $ pick ! (λ r. split ! $
-        move ! (1 ∷ []) $ use1 W (some (λ (zs : (Unit {0} × (Unit {0} × (Unit {0} × (List ℕ × Unit {0}))))). ‵ (lasts g.ended (ν-sheet ∷ [], (κ-p-argument, tt)) (record { ptr = (b, o + 0); name = δ-sheet; now = h .sheet }, (h .state, (p-word, (p-argument, tt)))) zs) ⊛ raw (fact 𝓤 (answerOf r (zs .1 .1 .1 .0) ≡ requestAnswer (h .sheet) (h .state) p-word (p-argument .now))))) (id⊢ 𝓤 _) $ pick ! (λ zs. split ! $ move ! (1 ∷ []) $ heard ! (answerOf r (zs .1 .1 .1 .0) ≡ requestAnswer (h .sheet) (h .state) p-word (p-argument .now)) (λ e.
-        move ! (0 ∷ []) $ fsplit ! $ move ! (1 ∷ []) $ fsplit ! $ move ! (1 ∷ []) $ fsplit ! $ move ! (1 ∷ []) $ fsplit ! $ move ! (1 ∷ []) $ drop ! $ move ! (3 ∷ []) $ drop ! $ move ! (2 ∷ []) $ drop ! $ move ! (1 ∷ []) $ drop ! $ move ! (0 ∷ []) $ fsplit ! $ move ! (1 ∷ []) $ feqL ! (λ l-p-argument. move ! (1 ∷ []) $ split ! $ move ! (1 ∷ []) $ peeks ! R.the-row (Is R.the-row) (shows 𝓤 H A R.the-row) r (v ∷ []) (λ is. move ! (0 ∷ []) $ drop ! $
+        lft-new ! tt (λ ν-sheet. move ! (7 ∷ []) $ use1 W (later (some (λ (δ-sheet : GName). ‵ ((ShrSlice (named 0) (ν-sheet ∷ []) u8) .own (record { ptr = (b, o + 0); name = δ-sheet; now = h .sheet }) (sliceVal (b, o + 0) 2688 ∷ [])) ⊛ ‵ (flent (ν-sheet ∷ []) (arr-parts (shares u8) 2688 .part fullShare (h .sheet) b (o + 0)))))) (lends-shr-array 𝓤 H A W u8 (named 0) (ν-sheet ∷ []) fullShare 2688 (h .sheet) b (o + 0) tt (lit< tt, lit< tt)) $ await ! tt $ pick ! (λ δ-sheet. split ! $
+        lft-new ! tt (λ ν-values. move ! (9 ∷ []) $ use1 W (later (some (λ (δ-values : GName). ‵ ((MutRef (named 1) (ν-values ∷ []) (Array u32 32)) .own (record { ptr = (b, o + 2720); name = δ-values; now = h .values }) (vptr b (o + 2720) ∷ [])) ⊛ ‵ (flent (ν-values ∷ []) (Body (mem (Array u32 32)) b (o + 2720) δ-values))))) (lends-ref 𝓤 H A W (Array u32 32) (named 1) (ν-values ∷ []) (h .values) b (o + 2720)) $ await ! tt $ pick ! (λ δ-values. split ! $
+        lft-new ! tt (λ ν-tally. move ! (11 ∷ []) $ use1 W (later (some (λ (δ-tally : GName). ‵ ((MutRef (named 2) (ν-tally ∷ []) (Array u64 8)) .own (record { ptr = (b, o + 2848); name = δ-tally; now = h .tally }) (vptr b (o + 2848) ∷ [])) ⊛ ‵ (flent (ν-tally ∷ []) (Body (mem (Array u64 8)) b (o + 2848) δ-tally))))) (lends-ref 𝓤 H A W (Array u64 8) (named 2) (ν-tally ∷ []) (h .tally) b (o + 2848)) $ await ! tt $ pick ! (λ δ-tally. split ! $
+        lft-new ! tt (λ ν-counts. move ! (13 ∷ []) $ use1 W (later (some (λ (δ-counts : GName). ‵ ((MutRef (named 3) (ν-counts ∷ []) (Array u32 3)) .own (record { ptr = (b, o + 2912); name = δ-counts; now = h .counts }) (vptr b (o + 2912) ∷ [])) ⊛ ‵ (flent (ν-counts ∷ []) (Body (mem (Array u32 3)) b (o + 2912) δ-counts))))) (lends-ref 𝓤 H A W (Array u32 3) (named 3) (ν-counts ∷ []) (h .counts) b (o + 2912)) $ await ! tt $ pick ! (λ δ-counts. split ! $
+        lft-new ! tt (λ ν-incoming. move ! (15 ∷ []) $ use1 W (later (some (λ (δ-incoming : GName). ‵ ((MutRef (named 4) (ν-incoming ∷ []) (Array u32 32)) .own (record { ptr = (b, o + 2924); name = δ-incoming; now = h .incoming }) (vptr b (o + 2924) ∷ [])) ⊛ ‵ (flent (ν-incoming ∷ []) (Body (mem (Array u32 32)) b (o + 2924) δ-incoming))))) (lends-ref 𝓤 H A W (Array u32 32) (named 4) (ν-incoming ∷ []) (h .incoming) b (o + 2924)) $ await ! tt $ pick ! (λ δ-incoming. split ! $
+        lft-new ! tt (λ ν-outgoing. move ! (17 ∷ []) $ use1 W (later (some (λ (δ-outgoing : GName). ‵ ((MutRef (named 5) (ν-outgoing ∷ []) (Array u32 160)) .own (record { ptr = (b, o + 3052); name = δ-outgoing; now = h .outgoing }) (vptr b (o + 3052) ∷ [])) ⊛ ‵ (flent (ν-outgoing ∷ []) (Body (mem (Array u32 160)) b (o + 3052) δ-outgoing))))) (lends-ref 𝓤 H A W (Array u32 160) (named 5) (ν-outgoing ∷ []) (h .outgoing) b (o + 3052)) $ await ! tt $ pick ! (λ δ-outgoing. split ! $
+        move ! (17 ∷ 14 ∷ 11 ∷ 8 ∷ 5 ∷ 2 ∷ 54 ∷ 15 ∷ 12 ∷ 9 ∷ 6 ∷ 3 ∷ 0 ∷ 53 ∷ []) $ group ! 14 $ use1 W (raw (Callee 𝓤 H A at-mem run .pre (to-callee ν-sheet ν-values ν-tally ν-counts ν-incoming ν-outgoing δ-sheet δ-values δ-tally δ-counts δ-incoming δ-outgoing))) (goes-callee ν-sheet ν-values ν-tally ν-counts ν-incoming ν-outgoing δ-sheet δ-values δ-tally δ-counts δ-incoming δ-outgoing was-setup) $
+        calls-at ! fm (Callee 𝓤 H A at-mem run) known (to-callee ν-sheet ν-values ν-tally ν-counts ν-incoming ν-outgoing δ-sheet δ-values δ-tally δ-counts δ-incoming δ-outgoing) (and-then ! (load ! (from ! (stop !)) (look ! 28 refl)) (and-then ! (load ! (from ! (stop !)) (look ! 26 refl)) (and-then ! (load ! (from ! (stop !)) (look ! 24 refl)) (and-then ! (load ! (from ! (stop !)) (look ! 22 refl)) (and-then ! (load ! (from ! (stop !)) (look ! 20 refl)) (and-then ! (load ! (from ! (stop !)) (look ! 18 refl)) (and-then ! (load ! (from ! (stop !)) (look ! 16 refl)) (and-then ! (load ! (from ! (stop !)) (look ! 36 refl)) (and-then ! (load ! (from ! (stop !)) (look ! 12 refl)) (no-more !)))))))))) (λ v.
+        use1 W (later (some (λ (r : Answered). ((‵ (flft (ν-sheet ∷ []) fullShare) ⊛ (‵ (flft (ν-values ∷ []) fullShare) ⊛ (‵ (flft (ν-tally ∷ []) fullShare) ⊛ (‵ (flft (ν-counts ∷ []) fullShare) ⊛ (‵ (flft (ν-incoming ∷ []) fullShare) ⊛ (‵ (flft (ν-outgoing ∷ []) fullShare) ⊛ (‵ (flft (κ-p-argument) q-p-argument) ⊛ ‵ ftrue))))))) ⊛ ‵ (R.the-row .own r (v ∷ []))) ⊛ raw (ensured 𝓤 H A g.ended (g.clauses 𝓤 H A at-mem run) (ν-sheet ∷ [], (ν-values ∷ [], (ν-tally ∷ [], (ν-counts ∷ [], (ν-incoming ∷ [], (ν-outgoing ∷ [], (κ-p-argument, tt))))))) (record { ptr = (b, o + 0); name = δ-sheet; now = h .sheet }, (h .setup, (record { ptr = (b, o + 2720); name = δ-values; now = h .values }, (record { ptr = (b, o + 2848); name = δ-tally; now = h .tally }, (record { ptr = (b, o + 2912); name = δ-counts; now = h .counts }, (record { ptr = (b, o + 2924); name = δ-incoming; now = h .incoming }, (record { ptr = (b, o + 3052); name = δ-outgoing; now = h .outgoing }, (p-word, (p-argument, tt))))))))) tt r)))) (id⊢ 𝓤 _) $ await ! tt $ pick ! (λ r. split ! $
+        move ! (1 ∷ []) $ use1 W (some (λ (zs : (Unit {0} × (Unit {0} × (List ℕ × (List ℕ × (List ℕ × (List ℕ × (List ℕ × (Unit {0} × (List ℕ × Unit {0})))))))))). ‵ (lasts g.ended (ν-sheet ∷ [], (ν-values ∷ [], (ν-tally ∷ [], (ν-counts ∷ [], (ν-incoming ∷ [], (ν-outgoing ∷ [], (κ-p-argument, tt))))))) (record { ptr = (b, o + 0); name = δ-sheet; now = h .sheet }, (h .setup, (record { ptr = (b, o + 2720); name = δ-values; now = h .values }, (record { ptr = (b, o + 2848); name = δ-tally; now = h .tally }, (record { ptr = (b, o + 2912); name = δ-counts; now = h .counts }, (record { ptr = (b, o + 2924); name = δ-incoming; now = h .incoming }, (record { ptr = (b, o + 3052); name = δ-outgoing; now = h .outgoing }, (p-word, (p-argument, tt))))))))) zs) ⊛ raw (fact 𝓤 (answerOf r (zs .1 .1 .0) (streamOf (zs .1 .1 .1 .0) (zs .1 .1 .1 .1 .0) (zs .1 .1 .1 .1 .1 .0) (entriesOf 32 (zs .1 .1 .1 .1 .1 .1 .0))) (zs .1 .1 .1 .1 .1 .1 .1 .1 .0) ≡ requestAnswer (h .sheet) (stateOf (h .setup) (h .values) (streamOf (h .tally) (h .counts) (h .incoming) (entriesOf 32 (h .outgoing)))) p-word (p-argument .now))))) (id⊢ 𝓤 _) $ pick ! (λ zs. split ! $ move ! (1 ∷ []) $ heard ! (answerOf r (zs .1 .1 .0) (streamOf (zs .1 .1 .1 .0) (zs .1 .1 .1 .1 .0) (zs .1 .1 .1 .1 .1 .0) (entriesOf 32 (zs .1 .1 .1 .1 .1 .1 .0))) (zs .1 .1 .1 .1 .1 .1 .1 .1 .0) ≡ requestAnswer (h .sheet) (stateOf (h .setup) (h .values) (streamOf (h .tally) (h .counts) (h .incoming) (entriesOf 32 (h .outgoing)))) p-word (p-argument .now)) (λ e.
+        move ! (0 ∷ []) $ fsplit ! $ move ! (1 ∷ []) $ fsplit ! $ move ! (1 ∷ []) $ fsplit ! $ move ! (1 ∷ []) $ fsplit ! $ move ! (1 ∷ []) $ fsplit ! $ move ! (1 ∷ []) $ fsplit ! $ move ! (1 ∷ []) $ fsplit ! $ move ! (1 ∷ []) $ fsplit ! $ move ! (1 ∷ []) $ fsplit ! $ move ! (1 ∷ []) $ drop ! $ move ! (8 ∷ []) $ drop ! $ move ! (7 ∷ []) $ drop ! $ move ! (1 ∷ []) $ drop ! $ move ! (0 ∷ []) $ fsplit ! $ move ! (1 ∷ []) $ feqL ! (λ l-p-argument. move ! (6 ∷ []) $ split ! $ move ! (1 ∷ []) $ peeks ! R.the-row (Is R.the-row) (shows 𝓤 H A R.the-row) r (v ∷ []) (λ is. move ! (0 ∷ []) $ drop ! $
         let parts = LL.owed R.the-type R′.the-laws r (v ∷ []) is in
-        land ! (from ! (stop !)) (init ! 18 refl (LL.lawful R.the-type R′.the-laws 𝓤 H A W .typed r _ is .0)) $
-        rewrite ! 18 (λ (u : Val). ‵ (fat fullShare R′.mir l4 0 u)) (ap hd (LL.tells R.the-type R′.the-laws r (v ∷ []) is)) refl $
-        move ! (0 ∷ []) $ split ! $ move ! (1 ∷ []) $ split ! $ move ! (1 ∷ []) $ drop ! $
+        land ! (from ! (stop !)) (init ! 38 refl (LL.lawful R.the-type R′.the-laws 𝓤 H A W .typed r _ is .0)) $
+        rewrite ! 38 (λ (u : Val). ‵ (fat fullShare R′.mir l4 0 u)) (ap hd (LL.tells R.the-type R′.the-laws r (v ∷ []) is)) refl $
+        move ! (0 ∷ []) $ split ! $ move ! (1 ∷ []) $ split ! $ move ! (1 ∷ []) $ split ! $ move ! (1 ∷ []) $ split ! $ move ! (1 ∷ []) $ split ! $ move ! (1 ∷ []) $ split ! $ move ! (1 ∷ []) $ split ! $ move ! (1 ∷ []) $ drop ! $
         -- the lifetimes are ended, and the arrays come back
-        move ! (1 ∷ []) $ lft-end ! tt $ move ! (0 ∷ 3 ∷ []) $ lent-back ! tt $ use1 W (‵ (partAt (Array u8 2688) fullShare (h .sheet) b (o + 0))) (shr-array-back 𝓤 H A W u8 fullShare 2688 (h .sheet) b (o + 0)) $ rewrite ! 0 (λ (u : List ℕ). ‵ (partAt (Array u8 2688) fullShare u b (o + 0))) (sym (map-same (h .sheet))) refl $
-        assigns ! (of-opd ! (load ! (from ! (fld ! {τ = S-State′.mir} {d = 8} refl (stop !))) (look-in ! 18 (sub ! 1 {τ = S-State′.mir} {d = 8} refl (whole !))))) (from ! (hop ! (look ! 24 refl) (fld ! {τ = S-State′.mir} {d = 2688} refl (stop !)))) (store-raw ! 3 {τ = S-State′.mir} refl (LL.lawful S-State.the-type S-State′.the-laws 𝓤 H A W .typed (r .state) _ (parts .1 .0) .0)) $
-        assigns ! (of-opd ! (load ! (from ! (fld ! {τ = (tyInt w32)} {d = 0} refl (stop !))) (look-in ! 18 (sub ! 0 {τ = (tyInt w32)} {d = 0} refl (whole !))))) (from ! (stop !)) (init ! 26 refl (uint-lawful 𝓤 H A W w32 .typed (r .number) _ (parts .0) .0)) $
+        move ! (6 ∷ []) $ lft-end ! tt $ move ! (0 ∷ 18 ∷ []) $ lent-back ! tt $ use1 W (‵ (partAt (Array u8 2688) fullShare (h .sheet) b (o + 0))) (shr-array-back 𝓤 H A W u8 fullShare 2688 (h .sheet) b (o + 0)) $ rewrite ! 0 (λ (u : List ℕ). ‵ (partAt (Array u8 2688) fullShare u b (o + 0))) (sym (map-same (h .sheet))) refl $
+        move ! (6 ∷ []) $ lft-end ! tt $ move ! (0 ∷ 17 ∷ 12 ∷ []) $ use3 W (later (‵ (partAt (Array u32 32) fullShare (zs .1 .1 .0) b (o + 2720)))) (ref-back 𝓤 H A W (Array u32 32) (ν-values ∷ []) δ-values (zs .1 .1 .0) b (o + 2720)) $ await ! tt $ rewrite ! 0 (λ (u : List ℕ). ‵ (partAt (Array u32 32) fullShare u b (o + 2720))) (sym (map-same (zs .1 .1 .0))) refl $
+        move ! (6 ∷ []) $ lft-end ! tt $ move ! (0 ∷ 15 ∷ 11 ∷ []) $ use3 W (later (‵ (partAt (Array u64 8) fullShare (zs .1 .1 .1 .0) b (o + 2848)))) (ref-back 𝓤 H A W (Array u64 8) (ν-tally ∷ []) δ-tally (zs .1 .1 .1 .0) b (o + 2848)) $ await ! tt $ rewrite ! 0 (λ (u : List ℕ). ‵ (partAt (Array u64 8) fullShare u b (o + 2848))) (sym (map-same (zs .1 .1 .1 .0))) refl $
+        move ! (6 ∷ []) $ lft-end ! tt $ move ! (0 ∷ 13 ∷ 10 ∷ []) $ use3 W (later (‵ (partAt (Array u32 3) fullShare (zs .1 .1 .1 .1 .0) b (o + 2912)))) (ref-back 𝓤 H A W (Array u32 3) (ν-counts ∷ []) δ-counts (zs .1 .1 .1 .1 .0) b (o + 2912)) $ await ! tt $ rewrite ! 0 (λ (u : List ℕ). ‵ (partAt (Array u32 3) fullShare u b (o + 2912))) (sym (map-same (zs .1 .1 .1 .1 .0))) refl $
+        move ! (6 ∷ []) $ lft-end ! tt $ move ! (0 ∷ 11 ∷ 9 ∷ []) $ use3 W (later (‵ (partAt (Array u32 32) fullShare (zs .1 .1 .1 .1 .1 .0) b (o + 2924)))) (ref-back 𝓤 H A W (Array u32 32) (ν-incoming ∷ []) δ-incoming (zs .1 .1 .1 .1 .1 .0) b (o + 2924)) $ await ! tt $ rewrite ! 0 (λ (u : List ℕ). ‵ (partAt (Array u32 32) fullShare u b (o + 2924))) (sym (map-same (zs .1 .1 .1 .1 .1 .0))) refl $
+        move ! (6 ∷ []) $ lft-end ! tt $ move ! (0 ∷ 9 ∷ 8 ∷ []) $ use3 W (later (‵ (partAt (Array u32 160) fullShare (zs .1 .1 .1 .1 .1 .1 .0) b (o + 3052)))) (ref-back 𝓤 H A W (Array u32 160) (ν-outgoing ∷ []) δ-outgoing (zs .1 .1 .1 .1 .1 .1 .0) b (o + 3052)) $ await ! tt $ rewrite ! 0 (λ (u : List ℕ). ‵ (partAt (Array u32 160) fullShare u b (o + 3052))) (sym (map-same (zs .1 .1 .1 .1 .1 .1 .0))) refl $
+        assigns ! (of-opd ! (load ! (from ! (fld ! {τ = S-Setup′.mir} {d = 4} refl (stop !))) (look-in ! 33 (sub ! 1 {τ = S-Setup′.mir} {d = 4} refl (whole !))))) (from ! (hop ! (look ! 39 refl) (fld ! {τ = S-Setup′.mir} {d = 2688} refl (stop !)))) (store-raw ! 8 {τ = S-Setup′.mir} refl (LL.lawful S-Setup.the-type S-Setup′.the-laws 𝓤 H A W .typed (r .setup) _ (parts .1 .0) .0)) $
+        assigns ! (of-opd ! (load ! (from ! (fld ! {τ = (tyInt w32)} {d = 0} refl (stop !))) (look-in ! 33 (sub ! 0 {τ = (tyInt w32)} {d = 0} refl (whole !))))) (from ! (stop !)) (init ! 41 refl (uint-lawful 𝓤 H A W w32 .typed (r .number) _ (parts .0) .0)) $
         -- the fields, put together again
-        owned ! S-State.the-row (Is S-State.the-row) ((LL.makes S-State.the-type S-State′.the-plain) 𝓤 H A) (r .state) _ (parts .1 .0) $ move ! (4 ∷ 0 ∷ []) $ use2 W (‵ (partAt (field S-State.the-type .row) fullShare (S-State.the-type .to (r .state)) b (o + 2688))) (part-shut 𝓤 H A (field S-State.the-type .row) fullShare (S-State.the-type .to (r .state)) b (o + 2688) (LL.vals S-State.the-type S-State′.the-laws (r .state))) $
-        nothing ! $ move ! (1 ∷ 0 ∷ []) $ fjoin ! $ move ! (1 ∷ 0 ∷ []) $ fjoin ! $ move ! (0 ∷ 3 ∷ []) $ use2 W (‵ (partAt T.the-row fullShare (record { sheet = h .sheet; state = r .state }) b o)) (together fullShare (record { sheet = h .sheet; state = r .state })) $ move ! (0 ∷ 3 ∷ 4 ∷ 5 ∷ []) $ close-ref ! tt (mem T.the-row) (record { sheet = h .sheet; state = r .state }) {b = b} {o = o} $
-        returns ! (look ! 23 refl) $ forget ! 5 refl $ forget ! 7 refl $ forget ! 9 refl $ forget ! 11 refl $ forget ! 13 refl $ forget ! 15 refl $ forget ! 17 refl $ forget ! 19 refl $ forget ! 21 refl $ forget ! 23 refl $ move ! (23 ∷ 24 ∷ []) $ free1 ! $ move ! (21 ∷ 22 ∷ []) $ free1 ! $ move ! (19 ∷ 20 ∷ []) $ free1 ! $ move ! (17 ∷ 18 ∷ []) $ free1 ! $ move ! (15 ∷ 16 ∷ []) $ free1 ! $ move ! (13 ∷ 14 ∷ []) $ free1 ! $ move ! (11 ∷ 12 ∷ []) $ free1 ! $ move ! (9 ∷ 10 ∷ []) $ free1 ! $ move ! (7 ∷ 8 ∷ []) $ free1 ! $ move ! (5 ∷ 6 ∷ []) $ free1 ! $ free0 ! $
-        keep ! (0 ∷ 1 ∷ 2 ∷ 3 ∷ 4 ∷ []) $ by ! (exits r (zs .1 .1 .1 .0) e l-p-argument (parts .0))))))))))))))))))))))
+        owned ! S-Setup.the-row (Is S-Setup.the-row) ((LL.makes S-Setup.the-type S-Setup′.the-plain) 𝓤 H A) (r .setup) _ (parts .1 .0) $ move ! (9 ∷ 0 ∷ []) $ use2 W (‵ (partAt (field S-Setup.the-type .row) fullShare (S-Setup.the-type .to (r .setup)) b (o + 2688))) (part-shut 𝓤 H A (field S-Setup.the-type .row) fullShare (S-Setup.the-type .to (r .setup)) b (o + 2688) (LL.vals S-Setup.the-type S-Setup′.the-laws (r .setup))) $
+        nothing ! $ move ! (2 ∷ 0 ∷ []) $ fjoin ! $ move ! (2 ∷ 0 ∷ []) $ fjoin ! $ move ! (2 ∷ 0 ∷ []) $ fjoin ! $ move ! (2 ∷ 0 ∷ []) $ fjoin ! $ move ! (2 ∷ 0 ∷ []) $ fjoin ! $ move ! (1 ∷ 0 ∷ []) $ fjoin ! $ move ! (1 ∷ 0 ∷ []) $ fjoin ! $ move ! (0 ∷ 3 ∷ []) $ use2 W (‵ (partAt T.the-row fullShare (record { sheet = h .sheet; setup = r .setup; values = zs .1 .1 .0; tally = zs .1 .1 .1 .0; counts = zs .1 .1 .1 .1 .0; incoming = zs .1 .1 .1 .1 .1 .0; outgoing = zs .1 .1 .1 .1 .1 .1 .0 }) b o)) (together fullShare (record { sheet = h .sheet; setup = r .setup; values = zs .1 .1 .0; tally = zs .1 .1 .1 .0; counts = zs .1 .1 .1 .1 .0; incoming = zs .1 .1 .1 .1 .1 .0; outgoing = zs .1 .1 .1 .1 .1 .1 .0 })) $ move ! (0 ∷ 3 ∷ 4 ∷ 5 ∷ []) $ close-ref ! tt (mem T.the-row) (record { sheet = h .sheet; setup = r .setup; values = zs .1 .1 .0; tally = zs .1 .1 .1 .0; counts = zs .1 .1 .1 .1 .0; incoming = zs .1 .1 .1 .1 .1 .0; outgoing = zs .1 .1 .1 .1 .1 .1 .0 }) {b = b} {o = o} $
+        returns ! (look ! 33 refl) $ forget ! 5 refl $ forget ! 7 refl $ forget ! 9 refl $ forget ! 11 refl $ forget ! 13 refl $ forget ! 15 refl $ forget ! 17 refl $ forget ! 19 refl $ forget ! 21 refl $ forget ! 23 refl $ forget ! 25 refl $ forget ! 27 refl $ forget ! 29 refl $ forget ! 31 refl $ forget ! 33 refl $ move ! (33 ∷ 34 ∷ []) $ free1 ! $ move ! (31 ∷ 32 ∷ []) $ free1 ! $ move ! (29 ∷ 30 ∷ []) $ free1 ! $ move ! (27 ∷ 28 ∷ []) $ free1 ! $ move ! (25 ∷ 26 ∷ []) $ free1 ! $ move ! (23 ∷ 24 ∷ []) $ free1 ! $ move ! (21 ∷ 22 ∷ []) $ free1 ! $ move ! (19 ∷ 20 ∷ []) $ free1 ! $ move ! (17 ∷ 18 ∷ []) $ free1 ! $ move ! (15 ∷ 16 ∷ []) $ free1 ! $ move ! (13 ∷ 14 ∷ []) $ free1 ! $ move ! (11 ∷ 12 ∷ []) $ free1 ! $ move ! (9 ∷ 10 ∷ []) $ free1 ! $ move ! (7 ∷ 8 ∷ []) $ free1 ! $ move ! (5 ∷ 6 ∷ []) $ free1 ! $ free0 ! $
+        keep ! (0 ∷ 1 ∷ 2 ∷ 3 ∷ 4 ∷ []) $ by ! (exits r (zs .1 .1 .0) (zs .1 .1 .1 .0) (zs .1 .1 .1 .1 .0) (zs .1 .1 .1 .1 .1 .0) (zs .1 .1 .1 .1 .1 .1 .0) (zs .1 .1 .1 .1 .1 .1 .1 .1 .0) e l-p-argument (parts .0)))))))))))))))))))))))))))))))))))))
 
 module _ {M : Type 1} (𝓤 : URA M) (H : Heap 𝓤) (A : Atoms 𝓤) (W : Given 𝓤 H A) (at-mem : Memory → SProp 𝓤) (run : Routine → Fun 𝓤) where
   walks : (C : Calls 𝓤 H) (Λ : Loops 𝓤 H) → FmC 𝓤 H (W .laws) C → Triple 𝓤 (C #callee) (Callee 𝓤 H A at-mem run) → Walks 𝓤 H A f.ended stayed (WpFn 𝓤 H C Λ code.function) (f.clauses 𝓤 H A at-mem run)

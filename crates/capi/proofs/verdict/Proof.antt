@@ -10,7 +10,7 @@ verdict-number-requires : tie.Need-verdict-number-requires
 verdict-number-requires c κs = search needs
 
 returns : tie.Need-returns
-returns c = rw (c .verdict-number .ensures, c .before .verdict-of .ensures)
+returns c v n i o = rw (c .verdict-number .ensures, c .before .verdict-of .ensures v n i o)
 
 pub verdict-spec : {M : Type 1} → statement M
 verdict-spec = tie.close (tie.spec verdict-of-requires verdict-number-requires returns)

@@ -26,7 +26,7 @@ same-length : tie.Need-same-length
 same-length c = search needs
 
 returns : tie.Need-returns
-returns c =
+returns c p t =
     let g = c .before .before .before .before .before .reading .given in
     rw (c .before .before .put-value .ensures) (read-value _ _ _ (c .before .before .before .before .before .before .before .before .before .word-at .ensures) (c .before .before .before .before .before .before .before .read .ensures) (g .0 .0) (g .1))
 
@@ -34,7 +34,7 @@ same-length-2 : tie.Need-same-length-2
 same-length-2 c = search needs
 
 returns-2 : tie.Need-returns-2
-returns-2 c =
+returns-2 c p t =
     let g = c .before .before .reading2 .given in
     read-refused _ _ _ (c .before .before .before .before .before .before .word-at .ensures) (c .before .before .before .before .read .ensures) (g .0 .0) (g .1) (c .errno .ensures)
 

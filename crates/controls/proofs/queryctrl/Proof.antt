@@ -22,7 +22,7 @@ same-length c = search needs
 
 returns : tie.Need-returns
 unfolding queryctrlOf
-returns c = rw (← c .before .before .before .before .word-at .ensures, ← c .before .before .before .queried .ensures, ← c .before .before .count .ensures, le-leb _ _ (c .before .if1 .taken), c .errno .ensures)
+returns c d = rw (← c .before .before .before .before .word-at .ensures, ← c .before .before .before .queried .ensures, ← c .before .before .count .ensures, le-leb _ _ (c .before .if1 .taken), c .errno .ensures)
 
 put-control-requires : tie.Need-put-control-requires
 put-control-requires c κs = search needs
@@ -32,7 +32,7 @@ same-length-2 c = search needs
 
 returns-2 : tie.Need-returns-2
 unfolding queryctrlOf
-returns-2 c = rw (← c .before .before .before .before .before .before .before .word-at .ensures, ← c .before .before .before .before .before .before .queried .ensures, ← c .before .before .before .before .before .count .ensures, lt-leb _ _ (c .before .before .before .before .if1 .left), c .before .before .put-control .ensures)
+returns-2 c d = rw (← c .before .before .before .before .before .before .before .word-at .ensures, ← c .before .before .before .before .before .before .queried .ensures, ← c .before .before .before .before .before .count .ensures, lt-leb _ _ (c .before .before .before .before .if1 .left), c .before .before .put-control .ensures)
 
 pub queryctrl-spec : {M : Type 1} → statement M
 queryctrl-spec =

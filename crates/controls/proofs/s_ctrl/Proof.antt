@@ -16,8 +16,8 @@ set-requires c κs = search needs
 enum-known-setting : tie.Need-enum-known-setting
 enum-known-setting c = search needs
 
-stored-requires : tie.Need-stored-requires
-stored-requires c κs = search needs
+keep-requires : tie.Need-keep-requires
+keep-requires c κs = search needs
 
 put-value-requires : tie.Need-put-value-requires
 put-value-requires c κs = search needs
@@ -35,22 +35,22 @@ same-length : tie.Need-same-length
 same-length c = search needs
 
 returns : tie.Need-returns
-returns c =
+returns c p t =
     let g = c .before .before .before .before .before .before .before .setting .given in
     rw (c .before .before .put-value .ensures)
-    (set-stored _ _ _ (c .before .before .before .before .before .before .before .before .before .before .before .before .word-at .ensures) (c .before .before .before .before .before .before .before .before .before .before .word-at2 .ensures) (c .before .before .before .before .before .before .before .before .before .set .ensures) (g .0 .0) (g .0 .1 .0) (g .1) (c .before .before .before .before .stored .ensures))
+    (set-stored _ _ _ (c .before .before .before .before .before .before .before .before .before .before .before .before .word-at .ensures) (c .before .before .before .before .before .before .before .before .before .before .word-at2 .ensures) (c .before .before .before .before .before .before .before .before .before .set .ensures) (g .0 .0) (g .0 .1 .0) (g .1) (c .before .before .before .before .keep .ensures))
 
 same-length-2 : tie.Need-same-length-2
 same-length-2 c = search needs
 
 returns-2 : tie.Need-returns-2
-returns-2 c = set-pressed _ _ _ (c .before .before .before .before .before .word-at .ensures) (c .before .before .before .word-at2 .ensures) (c .before .before .set .ensures) (c .enum-told .given .1)
+returns-2 c p t = set-pressed _ _ _ (c .before .before .before .before .before .word-at .ensures) (c .before .before .before .word-at2 .ensures) (c .before .before .set .ensures) (c .enum-told .given .1)
 
 same-length-3 : tie.Need-same-length-3
 same-length-3 c = search needs
 
 returns-3 : tie.Need-returns-3
-returns-3 c =
+returns-3 c p t =
     let g = c .before .before .setting2 .given in
     set-refused _ _ _ (c .before .before .before .before .before .before .before .word-at .ensures) (c .before .before .before .before .before .word-at2 .ensures) (c .before .before .before .before .set .ensures) (g .0 .0) (g .1) (c .errno .ensures)
 
@@ -62,7 +62,7 @@ s-ctrl-spec =
     word-at-requires-2
     set-requires
     enum-known-setting
-    stored-requires
+    keep-requires
     put-value-requires
     enum-told
     enum-known-setting-2

@@ -12,7 +12,7 @@ image-size-requires c κs = search needs
 
 returns : tie.Need-returns
 unfolding frameSize
-returns c = rw (c .image-size .ensures, c .before .line-alignment .ensures)
+returns c v t = rw (c .image-size .ensures, c .before .line-alignment .ensures)
 
 pub frame-size-spec : {M : Type 1} → statement M
 frame-size-spec = tie.close (tie.spec line-alignment-requires image-size-requires returns)

@@ -7,14 +7,14 @@ use Rattle.device.proofs.film.verdict_of.Tie as tie
 
 returns : tie.Need-returns
 unfolding deviceVerdict
-returns c = simp (eq-eqb _ _ (c .if1 .taken))
+returns c v n i o = simp (eq-eqb _ _ (c .if1 .taken))
 
 film-verdict-requires : tie.Need-film-verdict-requires
 film-verdict-requires c κs = search needs
 
 returns-2 : tie.Need-returns-2
 unfolding deviceVerdict
-returns-2 c = rw (ne-eqb _ _ (c .before .before .if1 .left)) (c .film-verdict .ensures)
+returns-2 c v n i o = rw (ne-eqb _ _ (c .before .if1 .left)) (c .film-verdict .ensures n i o)
 
 pub verdict-of-spec : {M : Type 1} → statement M
 verdict-of-spec = tie.close (tie.spec returns film-verdict-requires returns-2)

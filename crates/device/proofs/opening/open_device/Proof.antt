@@ -1,6 +1,8 @@
 -- The tests in the order of the definition. Assumes nothing.
 use mathlib.Core.Path.{_∙_}
+use Rattle.device.proofs.Arrays.{fresh}
 use Rattle.device.proofs.Cases.{opened-bad, opened-long, opened-good}
+use Rattle.state.specs.State.{openingState}
 use borrow.Author.Needs.{needs}
 use Rattle.device.proofs.opening.open_device.Statement.{statement}
 use Rattle.device.proofs.opening.open_device.Tie as tie
@@ -29,8 +31,19 @@ slice-aggregate-opening c = search needs
 opening-requires : tie.Need-opening-requires
 opening-requires c κs = search needs
 
+slice-aggregate-at-opening : tie.Need-slice-aggregate-at-opening
+slice-aggregate-at-opening c = search needs
+
+at-opening-requires : tie.Need-at-opening-requires
+at-opening-requires c κs = search needs
+
 returns-3 : tie.Need-returns-3
-returns-3 c = rw (c .opening .ensures, c .before .before .kept .ensures) (opened-good _ _ (c .before .before .before .before .before .good-sheet .ensures) (c .before .before .before .before .if1 .left) (c .before .before .before .if2 .left))
+unfolding openingState
+returns-3 c =
+    let n = c .before .before .before .before .before .before .before .before .before .args .length in
+    let g = c .before .before .before .before .before .before .before .good-sheet .ensures in
+    rw (c .at-opening .ensures, c .before .before .opening .ensures, c .before .before .before .before .kept .ensures, fresh n)
+    (opened-good _ _ g (c .before .before .before .before .before .before .if1 .left) (c .before .before .before .before .before .if2 .left))
 
 pub open-device-spec : {M : Type 1} → statement M
 open-device-spec =
@@ -44,4 +57,6 @@ open-device-spec =
     kept-requires
     slice-aggregate-opening
     opening-requires
+    slice-aggregate-at-opening
+    at-opening-requires
     returns-3)

@@ -13,7 +13,7 @@ errno-requires c κs = search needs
 
 returns : tie.Need-returns
 unfolding sCropOf
-returns c = typed-refused 0 _ _ _ (c .before .before .word-at .ensures) (c .before .if1 .taken) (c .errno .ensures)
+returns c v t = typed-refused 0 _ _ _ (c .before .before .word-at .ensures) (c .before .if1 .taken) (c .errno .ensures)
 
 crop-bounds-requires : tie.Need-crop-bounds-requires
 crop-bounds-requires c κs = search needs
@@ -26,7 +26,7 @@ clamp-requires c κs = search needs
 
 returns-2 : tie.Need-returns-2
 unfolding sCropOf
-returns-2 c = rw (typed-passed 0 _ _ _ (c .before .before .before .before .word-at .ensures) (c .before .before .before .if1 .left), c .clamp .ensures, c .before .before .crop-bounds .ensures, c .before .asked .ensures)
+returns-2 c v t = rw (typed-passed 0 _ _ _ (c .before .before .before .before .word-at .ensures) (c .before .before .before .if1 .left), c .clamp .ensures, c .before .before .crop-bounds .ensures, c .before .asked .ensures)
 
 pub s-crop-spec : {M : Type 1} → statement M
 s-crop-spec =

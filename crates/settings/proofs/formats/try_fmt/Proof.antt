@@ -16,7 +16,7 @@ same-length c = search needs
 
 returns : tie.Need-returns
 unfolding tryFmtOf
-returns c = typed-refused 0 _ _ _ (c .before .before .word-at .ensures) (c .before .if1 .taken) (c .errno .ensures)
+returns c v t = typed-refused 0 _ _ _ (c .before .before .word-at .ensures) (c .before .if1 .taken) (c .errno .ensures)
 
 asked-requires : tie.Need-asked-requires
 asked-requires c κs = search needs
@@ -32,7 +32,7 @@ same-length-2 c = search needs
 
 returns-2 : tie.Need-returns-2
 unfolding tryFmtOf
-returns-2 c = rw (typed-passed 0 _ _ _ (c .before .before .before .before .before .before .before .before .word-at .ensures) (c .before .before .before .before .before .before .before .if1 .left), c .before .before .put-format .ensures, c .before .before .before .before .negotiate .ensures, c .before .before .before .before .before .asked .ensures)
+returns-2 c v t = rw (typed-passed 0 _ _ _ (c .before .before .before .before .before .before .before .before .word-at .ensures) (c .before .before .before .before .before .before .before .if1 .left), c .before .before .put-format .ensures, c .before .before .before .before .negotiate .ensures, c .before .before .before .before .before .asked .ensures)
 
 pub try-fmt-spec : {M : Type 1} → statement M
 try-fmt-spec =

@@ -1,15 +1,18 @@
--- The stream as `stopped` promises. Assumes nothing.
+-- The stream as `end` promises. Assumes nothing.
 use borrow.Author.Needs.{needs}
 use Rattle.stream.specs.Calls.{stopOf}
 use Rattle.stream.proofs.calls.stop.Statement.{statement}
 use Rattle.stream.proofs.calls.stop.Tie as tie
 
-stopped-requires : tie.Need-stopped-requires
-stopped-requires c κs = search needs
+element-copy-out-granted : tie.Need-element-copy-out-granted
+element-copy-out-granted c = search needs
+
+end-requires : tie.Need-end-requires
+end-requires c κs = search needs
 
 returns : tie.Need-returns
 unfolding stopOf
-returns c = rw (c .stopped .ensures)
+returns c = λ i o. rw (c .end .ensures i o)
 
 pub stop-spec : {M : Type 1} → statement M
-stop-spec = tie.close (tie.spec stopped-requires returns)
+stop-spec = tie.close (tie.spec element-copy-out-granted end-requires returns)

@@ -1,8 +1,12 @@
 -- The tests in the order of the definition, each as its callee promises. Assumes nothing.
 use denote.Ref.{now}
 use borrow.Author.Needs.{needs}
+use Rattle.buffers.specs.Queues.{entriesOf}
+use Rattle.stream.specs.Stream.{streamOf}
+use Rattle.state.specs.State.{stateOf}
 use Rattle.streaming.specs.Streaming.{dqbufOf}
 use Rattle.streaming.proofs.Cases.{is-one, not-one, step-refused, step-done}
+use Rattle.streaming.proofs.Refused.{dequeue-keeps}
 use Rattle.streaming.proofs.calls.dqbuf.Statement.{statement}
 use Rattle.streaming.proofs.calls.dqbuf.Tie as tie
 
@@ -17,7 +21,7 @@ same-length c = search needs
 
 returns : tie.Need-returns
 unfolding dqbufOf
-returns c = rw (not-one (c .before .before .word-at .ensures) (c .before .if1 .taken), c .errno .ensures)
+returns c = λ v i. rw (not-one (c .before .before .word-at .ensures) (c .before .if1 .taken), c .errno .ensures)
 
 word-at-requires-2 : tie.Need-word-at-requires-2
 word-at-requires-2 c κs = search needs
@@ -30,10 +34,13 @@ same-length-2 c = search needs
 
 returns-2 : tie.Need-returns-2
 unfolding dqbufOf
-returns-2 c =
+returns-2 c = λ v i.
     let m = c .before .before in
     let l = m .before .before .before in
     rw (is-one (l .word-at .ensures) (m .before .before .if1 .left), not-one (m .word-at2 .ensures) (c .before .if2 .taken), c .errno2 .ensures)
+
+oldest-outgoing-requires : tie.Need-oldest-outgoing-requires
+oldest-outgoing-requires c κs = search needs
 
 dequeue-requires : tie.Need-dequeue-requires
 dequeue-requires c κs = search needs
@@ -46,17 +53,15 @@ same-length-3 c = search needs
 
 returns-3 : tie.Need-returns-3
 unfolding dqbufOf
-returns-3 c =
+returns-3 c = λ v i.
     let q = c .before .before in
-    let i = q .before .before in
-    let m = i .before in
+    let k = q .before .before .before .before .before .before in
+    let m = k .before in
     let l = m .before .before .before in
     let a = l .before .before .before .before .args in
-    rw (is-one (l .word-at .ensures) (m .before .before .if1 .left), is-one (m .word-at2 .ensures) (i .if2 .left))
-    (step-refused (a .s) (now (a .argument)) (q .dequeue .ensures) (c .before .reply-number .ensures) (c .if3 .taken) _)
-
-array-copy-out-entry : tie.Need-array-copy-out-entry
-array-copy-out-entry c = search needs
+    let t = streamOf (now (a .tally)) (now (a .counts)) i (entriesOf 32 (now (a .outgoing))) in
+    rw (is-one (l .word-at .ensures) (m .before .before .if1 .left), is-one (m .word-at2 .ensures) (k .if2 .left))
+    (step-refused (stateOf (a .s) v t) (now (a .argument)) (q .dequeue .ensures i) (c .before .reply-number .ensures) (dequeue-keeps t) (c .if3 .taken) _)
 
 frame-size-requires : tie.Need-frame-size-requires
 frame-size-requires c κs = search needs
@@ -72,17 +77,19 @@ same-length-4 c = search needs
 
 returns-4 : tie.Need-returns-4
 unfolding dqbufOf
-returns-4 c =
-    let p = c .before .before .before in
-    let n = p .before .before .before .before .before .before in
+returns-4 c = λ v i.
+    let p = c .before .before in
+    let f = p .before .before in
+    let n = f .before .before in
     let q = n .before .before in
-    let i = q .before .before in
-    let m = i .before in
+    let k = q .before .before .before .before .before .before in
+    let m = k .before in
     let l = m .before .before .before in
     let a = l .before .before .before .before .args in
-    rw (is-one (l .word-at .ensures) (m .before .before .if1 .left), is-one (m .word-at2 .ensures) (i .if2 .left))
-    (step-done (a .s) (now (a .argument)) (q .dequeue .ensures) (n .before .reply-number .ensures) (n .if3 .left)
-    (rw (p .before .returned .ensures, p .before .before .frame-size .ensures) at (p .put-buffer .ensures)))
+    let t = streamOf (now (a .tally)) (now (a .counts)) i (entriesOf 32 (now (a .outgoing))) in
+    rw (is-one (l .word-at .ensures) (m .before .before .if1 .left), is-one (m .word-at2 .ensures) (k .if2 .left))
+    (step-done (stateOf (a .s) v t) (now (a .argument)) (q .dequeue .ensures i) (n .before .reply-number .ensures) (n .if3 .left)
+    (rw (p .before .returned .ensures, f .frame-size .ensures v t, q .before .before .before .before .oldest-outgoing .ensures) at (p .put-buffer .ensures)))
 
 pub dqbuf-spec : {M : Type 1} → statement M
 dqbuf-spec =
@@ -96,11 +103,11 @@ dqbuf-spec =
     errno-requires-2
     same-length-2
     returns-2
+    oldest-outgoing-requires
     dequeue-requires
     reply-number-requires
     same-length-3
     returns-3
-    array-copy-out-entry
     frame-size-requires
     returned-requires
     put-buffer-requires

@@ -1,8 +1,13 @@
 -- The tests in the order of the definition, each as its callee promises. Assumes nothing.
+use mathlib.Core.Path.{ap}
 use denote.Ref.{now}
 use borrow.Author.Needs.{needs}
+use Rattle.stream.specs.Stream.{streamOf}
+use Rattle.stream.specs.Calls.{Step}
+use Rattle.state.specs.State.{stateOf}
 use Rattle.streaming.specs.Streaming.{reqbufsOf}
 use Rattle.streaming.proofs.Cases.{is-one, not-one, step-refused, step-done}
+use Rattle.streaming.proofs.Refused.{request-keeps}
 use Rattle.streaming.proofs.calls.reqbufs.Statement.{statement}
 use Rattle.streaming.proofs.calls.reqbufs.Tie as tie
 
@@ -17,7 +22,7 @@ same-length c = search needs
 
 returns : tie.Need-returns
 unfolding reqbufsOf
-returns c = rw (not-one (c .before .before .word-at .ensures) (c .before .if1 .taken), c .errno .ensures)
+returns c = λ v i o. rw (not-one (c .before .before .word-at .ensures) (c .before .if1 .taken), c .errno .ensures)
 
 word-at-requires-2 : tie.Need-word-at-requires-2
 word-at-requires-2 c κs = search needs
@@ -30,7 +35,7 @@ same-length-2 c = search needs
 
 returns-2 : tie.Need-returns-2
 unfolding reqbufsOf
-returns-2 c =
+returns-2 c = λ v i o.
     let m = c .before .before in
     let l = m .before .before .before in
     rw (is-one (l .word-at .ensures) (m .before .before .if1 .left), not-one (m .word-at2 .ensures) (c .before .if2 .taken), c .errno2 .ensures)
@@ -52,15 +57,19 @@ same-length-3 c = search needs
 
 returns-3 : tie.Need-returns-3
 unfolding reqbufsOf
-returns-3 c =
+returns-3 c = λ v i o.
     let q = c .before .before in
-    let i = q .before .before .before .before .before in
-    let m = i .before in
+    let k = q .before .before .before .before in
+    let m = k .before .before .before in
     let l = m .before .before .before in
     let a = l .before .before .before .before .args in
-    rw (is-one (l .word-at .ensures) (m .before .before .if1 .left), is-one (m .word-at2 .ensures) (i .if2 .left))
-    (step-refused (a .s) (now (a .argument)) (rw (q .before .before .word-at3 .ensures, q .before .frame-size .ensures) at (q .request-buffers .ensures))
-    (c .before .reply-number .ensures) (c .if3 .taken) _)
+    let t = streamOf (now (a .tally)) (now (a .counts)) i o in
+    rw (is-one (l .word-at .ensures) (m .before .before .if1 .left), is-one (m .word-at2 .ensures) (k .before .before .if2 .left))
+    (step-refused (stateOf (a .s) v t) (now (a .argument)) (rw (k .word-at3 .ensures, q .before .frame-size .ensures v t) at (q .request-buffers .ensures i o))
+    (c .before .reply-number .ensures) (request-keeps t _ _) (c .if3 .taken) _)
+
+element-copy-out-put-buffers : tie.Need-element-copy-out-put-buffers
+element-copy-out-put-buffers c = search needs
 
 put-buffers-requires : tie.Need-put-buffers-requires
 put-buffers-requires c κs = search needs
@@ -70,17 +79,19 @@ same-length-4 c = search needs
 
 returns-4 : tie.Need-returns-4
 unfolding reqbufsOf
-returns-4 c =
+returns-4 c = λ v i o.
     let p = c .before .before in
-    let q = p .before .before .before .before .before in
-    let i = q .before .before .before .before .before in
-    let m = i .before in
-    let e = rw (q .before .before .word-at3 .ensures, q .before .frame-size .ensures) at (q .request-buffers .ensures) in
+    let n = p .before .before .before in
+    let q = n .before .before in
+    let k = q .before .before .before .before in
+    let m = k .before .before .before in
     let l = m .before .before .before in
     let a = l .before .before .before .before .args in
-    rw (is-one (l .word-at .ensures) (m .before .before .if1 .left), is-one (m .word-at2 .ensures) (i .if2 .left))
-    (step-done (a .s) (now (a .argument)) e (p .before .before .before .before .reply-number .ensures) (p .before .before .before .if3 .left)
-    (rw e at (p .put-buffers .ensures)))
+    let t = streamOf (now (a .tally)) (now (a .counts)) i o in
+    let g = rw (k .word-at3 .ensures, q .before .frame-size .ensures v t) at (q .request-buffers .ensures i o) in
+    rw (is-one (l .word-at .ensures) (m .before .before .if1 .left), is-one (m .word-at2 .ensures) (k .before .before .if2 .left))
+    (step-done (stateOf (a .s) v t) (now (a .argument)) g (n .before .reply-number .ensures) (n .if3 .left)
+    (rw (ap (λ (x : Step). x .stream .queues .granted) g) at (p .put-buffers .ensures)))
 
 pub reqbufs-spec : {M : Type 1} → statement M
 reqbufs-spec =
@@ -100,6 +111,7 @@ reqbufs-spec =
     reply-number-requires
     same-length-3
     returns-3
+    element-copy-out-put-buffers
     put-buffers-requires
     same-length-4
     returns-4)

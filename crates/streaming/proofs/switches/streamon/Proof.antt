@@ -1,9 +1,11 @@
 -- The tests in the order of the definition, each as its callee promises. Assumes nothing.
-use mathlib.Core.Path.{refl}
 use denote.Ref.{now}
 use borrow.Author.Needs.{needs}
+use Rattle.stream.specs.Stream.{streamOf}
+use Rattle.state.specs.State.{stateOf}
 use Rattle.streaming.specs.Streaming.{streamonOf}
-use Rattle.streaming.proofs.Cases.{is-one, not-one, step-refused, step-done}
+use Rattle.streaming.proofs.Cases.{is-one, not-one, step-told}
+use Rattle.streaming.proofs.Refused.{start-keeps}
 use Rattle.streaming.proofs.switches.streamon.Statement.{statement}
 use Rattle.streaming.proofs.switches.streamon.Tie as tie
 
@@ -15,7 +17,7 @@ errno-requires c κs = search needs
 
 returns : tie.Need-returns
 unfolding streamonOf
-returns c = rw (not-one (c .before .before .word-at .ensures) (c .before .if1 .taken), c .errno .ensures)
+returns c = λ s v i o. rw (not-one (c .before .before .word-at .ensures) (c .before .if1 .taken), c .errno .ensures)
 
 start-requires : tie.Need-start-requires
 start-requires c κs = search needs
@@ -25,21 +27,13 @@ reply-number-requires c κs = search needs
 
 returns-2 : tie.Need-returns-2
 unfolding streamonOf
-returns-2 c =
-    let q = c .before .before in
+returns-2 c = λ s v i o.
+    let q = c .before in
     let l = q .before .before .before in
     let a = l .before .before .args in
+    let t = streamOf (now (a .tally)) (now (a .counts)) i o in
     rw (is-one (l .word-at .ensures) (q .before .before .if1 .left))
-    (step-refused (a .s) (now (a .argument)) (q .start .ensures) (c .before .reply-number .ensures) (c .if2 .taken) _)
-
-returns-3 : tie.Need-returns-3
-unfolding streamonOf
-returns-3 c =
-    let q = c .before .before .before in
-    let l = q .before .before .before in
-    let a = l .before .before .args in
-    rw (is-one (l .word-at .ensures) (q .before .before .if1 .left))
-    (step-done (a .s) (now (a .argument)) (q .start .ensures) (c .before .before .reply-number .ensures) (c .before .if2 .left) refl)
+    (step-told (stateOf s v t) (now (a .argument)) (q .start .ensures i o) (c .reply-number .ensures) (start-keeps t))
 
 pub streamon-spec : {M : Type 1} → statement M
 streamon-spec =
@@ -50,5 +44,4 @@ streamon-spec =
     returns
     start-requires
     reply-number-requires
-    returns-2
-    returns-3)
+    returns-2)
