@@ -9,7 +9,7 @@ use Rattle.stream.specs.Stream.{Stream}
 use Rattle.arrival.specs.declared.Arrival.the-variants.{Damaged}
 use Rattle.arrival.specs.Arrivals.{answers, acceptedOf}
 use Rattle.arrival.proofs.Cases.{whole-short}
-use Rattle.arrival.proofs.Tally.{stream-set}
+use Rattle.stream.proofs.Tally.{stream-set}
 use Rattle.arrival.proofs.decision.accepted.Statement.{statement}
 use Rattle.arrival.proofs.decision.accepted.Tie as tie
 

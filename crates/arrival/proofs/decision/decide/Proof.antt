@@ -9,7 +9,7 @@ use Rattle.buffers.specs.Queues.{entriesOf}
 use Rattle.stream.specs.Stream.{streamOf}
 use Rattle.arrival.specs.Arrivals.{answers, arrivalOf}
 use Rattle.arrival.proofs.Cases.{arrival-accepted}
-use Rattle.arrival.proofs.Tally.{stream-set}
+use Rattle.stream.proofs.Tally.{stream-set}
 use Rattle.arrival.proofs.decision.decide.Statement.{statement}
 use Rattle.arrival.proofs.decision.decide.Tie as tie
 

@@ -9,7 +9,7 @@ use Rattle.stream.specs.Stream.{Stream, streamOf}
 use Rattle.arrival.specs.declared.Arrival.the-variants.{Dropped}
 use Rattle.arrival.specs.Arrivals.{answers, placedOf}
 use Rattle.arrival.proofs.Cases.{placed-stored}
-use Rattle.arrival.proofs.Tally.{stream-set}
+use Rattle.stream.proofs.Tally.{stream-set}
 use Rattle.arrival.proofs.decision.placed.Statement.{statement}
 use Rattle.arrival.proofs.decision.placed.Tie as tie
 
