@@ -23,27 +23,18 @@ extern "C" {
 #endif
 
 /* The device. Its fields are the library's own: they are named here so that the layout is fixed and can be looked
- * at in a debugger. A program reads and writes them by the calls below. All zero is a closed device. */
-struct tg_time {
-    int32_t seconds;
-    int32_t microseconds;
-};
-
-struct tg_filled { /* an outgoing buffer */
-    uint32_t index;
-    uint32_t number;
-    uint32_t used;
-    struct tg_time time;
-};
-
+ * at in a debugger. A program reads and writes them by the calls below. All zero is a closed device. There are no
+ * bytes between the fields and none behind the last one. */
 struct tg_setup {
-    uint32_t ready;
-    struct {
+    uint32_t ready; /* 0: closed */
+    struct {        /* the format in force */
         uint32_t width;
         uint32_t height;
-        uint32_t code;
+        uint32_t code; /* four letters, the first in the lowest byte */
+        uint32_t line; /* bytes in a line of the first plane */
+        uint32_t size; /* bytes in an image */
     } format;
-    struct {
+    struct { /* the crop rectangle in force */
         int32_t left;
         int32_t top;
         int32_t width;
@@ -51,31 +42,37 @@ struct tg_setup {
     } crop;
 };
 
-struct tg_tally {
-    uint64_t length;
-    uint64_t streaming;
-    uint64_t ran;
-    uint64_t accepted;
-    uint64_t handed;
-    uint64_t damaged;
-    uint64_t dropped;
-    uint64_t discarded;
-};
-
-struct tg_counts {
-    uint32_t granted;
-    uint32_t queued;
-    uint32_t done;
+/* The buffers and the run. The buffers that a client has handed in and not got back stand in one line, the oldest
+ * first. What is kept of the i-th of the line, from 0 on, stands at place (head + i) modulo 32 of the five arrays
+ * index to microseconds; other places mean nothing. The first `holding` buffers of the line hold a frame and go out
+ * next; the others wait for one. A `lined` above 32 counts as 32, and a `holding` above `lined` as `lined`. */
+struct tg_stream {
+    uint64_t length;           /* bytes of the picture memory, as told at opening */
+    uint64_t streaming;        /* 0: no run is on */
+    uint64_t ran;              /* 0: no run was ever begun */
+    uint64_t accepted;         /* of the last run: arrivals that got a number; the next one's number */
+    uint64_t handed;           /* frames handed over by DQBUF */
+    uint64_t damaged;          /* arrivals of a wrong length or time */
+    uint64_t dropped;          /* whole arrivals that found no buffer waiting */
+    uint64_t discarded;        /* stored frames that the end of the run threw away */
+    uint64_t granted;          /* how many buffers there are */
+    uint64_t head;             /* where the line begins */
+    uint64_t holding;          /* how many of the line hold a frame */
+    uint64_t lined;            /* how many stand in the line */
+    uint64_t spare[4];         /* not used: zero */
+    uint64_t index[32];        /* which buffer it is */
+    uint64_t number[32];       /* of its frame: the number in the run */
+    uint64_t used[32];         /* the bytes of the frame */
+    uint64_t seconds[32];      /* the frame's time: the 32 bits of the signed number, zeros above them */
+    uint64_t microseconds[32]; /* likewise */
+    uint64_t maps[32];         /* not used: zero */
 };
 
 struct tg_device {
-    uint8_t sheet[2688];
+    uint8_t sheet[2688];    /* the sheet, and zeros behind it */
     struct tg_setup setup;
-    uint32_t values[32];
-    struct tg_tally tally;
-    struct tg_counts counts;
-    uint32_t incoming[32];
-    struct tg_filled outgoing[32];
+    uint32_t values[32];    /* the values of the controls, in the sheet's order */
+    struct tg_stream video;
 };
 
 /* What an arrival is answered. */

@@ -1,36 +1,130 @@
-//! Arrivals that are stored, beside memcpy of the same bytes to the same place.
+//! Arrivals: what deciding about one takes, and what storing its bytes takes.
 
-use crate::rounds::{compare, Figures, Side};
-use crate::setup;
+use crate::called::Called;
+use crate::rounds::{Row, Side};
+use crate::setup::{self, Aligned};
 use std::hint::black_box;
-use tollgutter_tests::ffi;
-use tollgutter_tests::model::words::{DQBUF, QBUF, REQBUFS, STREAMON, S_FMT};
-use tollgutter_tests::recorder::{Recorder, STORED};
+use tollgutter_tests::model::format::YUYV;
+use tollgutter_tests::model::words::{DQBUF, QBUF, REQBUFS, STREAMOFF, STREAMON, S_FMT};
+use tollgutter_tests::recorder::{Recorder, DAMAGED, DROPPED, STORED};
+use tollgutter_tests::{ffi, model};
 
-const MEMORY: usize = 1 << 20;
-const YUYV: u32 = u32::from_le_bytes(*b"YUYV");
-const RGB_LINES: [(usize, u32, u32); 2] = [(143_360, 304, 224), (460_800, 640, 360)];
+const BUFFERS: u32 = 8;
 
-/// A device that streams, with its memory and one frame; every round hands the buffer in again.
-struct Arrival {
-    device: ffi::Device,
+/// An arrival of the smallest frame, and what it is answered.
+#[derive(Clone, Copy)]
+struct Case {
+    name: &'static str,
+    answer: u32,
+    /// How many bytes the frame has.
+    length: usize,
+    /// How many buffers wait when a batch begins.
+    waiting: u32,
+    /// Devices in a batch, and arrivals on each.
+    devices: usize,
+    each: usize,
+}
+
+const CASES: [Case; 3] = [
+    Case { name: "stored, a frame of 4 bytes", answer: STORED, length: 4, waiting: BUFFERS, devices: 4, each: 8 },
+    Case { name: "damaged, 3 bytes of 4", answer: DAMAGED, length: 3, waiting: BUFFERS, devices: 1, each: 64 },
+    Case { name: "dropped, no buffer waits", answer: DROPPED, length: 4, waiting: 0, devices: 1, each: 64 },
+];
+
+struct Decision<R> {
+    case: Case,
+    devices: Vec<Aligned<R>>,
+    memory: Vec<u8>,
+}
+
+impl<R: Called> Decision<R> {
+    fn new(case: Case, make: impl Fn() -> R) -> Decision<R> {
+        let mut devices: Vec<Aligned<R>> = (0..case.devices).map(|_| Aligned(make())).collect();
+        for Aligned(device) in &mut devices {
+            setup::smallest(device, BUFFERS);
+        }
+        let mut decision = Decision { case, devices, memory: vec![0; setup::MEMORY] };
+        decision.check();
+        decision
+    }
+
+    /// Every arrival of a batch has to have the answer that the row names.
+    fn check(&mut self) {
+        self.ready();
+        for Aligned(device) in &mut self.devices {
+            for _ in 0..self.case.each {
+                let frame = &setup::SMALLEST_FRAME[..self.case.length];
+                assert_eq!(device.arrival(&mut self.memory, frame, 1, 2).answer, self.case.answer);
+            }
+        }
+    }
+}
+
+impl<R: Called> Side for Decision<R> {
+    fn ready(&mut self) {
+        for Aligned(device) in &mut self.devices {
+            setup::done(device, STREAMOFF, &[(0, 1)]);
+            setup::queue(device, self.case.waiting);
+            setup::done(device, STREAMON, &[(0, 1)]);
+        }
+    }
+
+    fn batch(&mut self) {
+        let memory = black_box(&mut self.memory);
+        let frame = black_box(&setup::SMALLEST_FRAME[..self.case.length]);
+        let (seconds, microseconds) = black_box((1, 2));
+        for Aligned(device) in &mut self.devices {
+            for _ in 0..self.case.each {
+                // By reference: a copy of the answer would be read before its parts are written out, and wait for them.
+                black_box(&device.call_arrival(memory, frame, seconds, microseconds));
+            }
+        }
+    }
+
+    fn calls(&self) -> usize {
+        self.case.devices * self.case.each
+    }
+}
+
+/// What deciding takes.
+pub fn decisions() -> Vec<Row> {
+    let row = |case: Case| Row {
+        name: case.name.into(),
+        library: Box::new(Decision::new(case, ffi::Device::zeroed)),
+        other: Box::new(Decision::new(case, model::Device::closed)),
+    };
+    CASES.map(row).into()
+}
+
+const FRAME_MEMORY: usize = 1 << 20;
+
+/// Bytes of a frame, width, height.
+const FRAMES: [(usize, u32, u32); 2] = [(143_360, 304, 224), (460_800, 640, 360)];
+
+/// A device that streams, with its memory and one frame; every batch hands the buffer in again.
+struct Frame {
+    device: Aligned<ffi::Device>,
     memory: Vec<u8>,
     frame: Vec<u8>,
     outgoing: bool,
 }
 
-impl Side for Arrival {
+impl Side for Frame {
     fn ready(&mut self) {
         if self.outgoing {
-            setup::done(&mut self.device, DQBUF, &[(4, 1), (48, 1)]);
+            setup::done(&mut self.device.0, DQBUF, &[(4, 1), (48, 1)]);
         }
-        setup::done(&mut self.device, QBUF, &[(4, 1), (48, 1)]);
+        setup::done(&mut self.device.0, QBUF, &[(4, 1), (48, 1)]);
     }
 
     fn batch(&mut self) {
-        let told = self.device.arrival(black_box(&mut self.memory), black_box(&self.frame), 1, 2);
+        let told = self.device.0.call_arrival(black_box(&mut self.memory), black_box(&self.frame), 1, 2);
         assert_eq!(told.answer, STORED);
         self.outgoing = true;
+    }
+
+    fn calls(&self) -> usize {
+        1
     }
 }
 
@@ -47,20 +141,26 @@ impl Side for Copy {
         let memory = black_box(&mut self.memory);
         memory[..self.frame.len()].copy_from_slice(black_box(&self.frame));
     }
+
+    fn calls(&self) -> usize {
+        1
+    }
 }
 
-fn frame(bytes: usize) -> Vec<u8> {
-    (0..bytes).map(|i| (i * 7) as u8).collect()
-}
-
-pub fn measure(bytes: usize) -> (Figures, Figures) {
-    let (_, width, height) = *RGB_LINES.iter().find(|line| line.0 == bytes).expect("a size of the table");
-    let mut device = setup::library();
-    assert_eq!(device.open(&setup::bench_sheet(), MEMORY as u64), 0);
+fn frame((bytes, width, height): (usize, u32, u32)) -> Row {
+    let mut device = ffi::Device::zeroed();
+    assert_eq!(device.open(&setup::bench_sheet(), FRAME_MEMORY as u64), 0);
     setup::done(&mut device, S_FMT, &[(0, 1), (4, width), (8, height), (12, YUYV)]);
     setup::done(&mut device, REQBUFS, &[(0, 1), (4, 1), (8, 1)]);
     setup::done(&mut device, STREAMON, &[(0, 1)]);
-    let mut left = Arrival { device, memory: vec![0; MEMORY], frame: frame(bytes), outgoing: false };
-    let mut right = Copy { memory: vec![0; MEMORY], frame: frame(bytes) };
-    compare(&mut left, &mut right, 1)
+    let frame: Vec<u8> = (0..bytes).map(|i| (i * 7) as u8).collect();
+    let memory = vec![0; FRAME_MEMORY];
+    let copy = Copy { memory: memory.clone(), frame: frame.clone() };
+    let library = Frame { device: Aligned(device), memory, frame, outgoing: false };
+    Row { name: format!("{bytes} bytes"), library: Box::new(library), other: Box::new(copy) }
+}
+
+/// What storing takes.
+pub fn frames() -> Vec<Row> {
+    FRAMES.map(frame).into()
 }

@@ -1,160 +1,218 @@
-//! The seventeen requests and an unknown word, each accepted (the unknown one refused), on the bench sheet.
+//! The seventeen requests and an unknown word, each accepted (the unknown one refused).
 
-use crate::rounds::{compare, Figures, Side};
-use crate::setup;
+use crate::called::Called;
+use crate::rounds::{Row, Side};
+use crate::setup::{self, Aligned};
 use std::hint::black_box;
+use tollgutter_tests::model::format::YU12;
 use tollgutter_tests::model::words::*;
-use tollgutter_tests::recorder::{Recorder, STORED};
+use tollgutter_tests::{ffi, model};
 
-const MEMORY: usize = 2_000_000;
-const YUYV: u32 = u32::from_le_bytes(*b"YUYV");
-const YU12: u32 = u32::from_le_bytes(*b"YU12");
 const CONTRAST: u32 = 0x0098_0901;
+const UNKNOWN: u32 = 0xC008_56FF;
 
-/// How a device is brought to where the call is accepted.
-#[derive(Clone, Copy, PartialEq)]
+/// How many buffers the first table grants, and those of the second.
+const USUAL: u32 = 8;
+const COUNTS: [u32; 3] = [4, 8, 32];
+
+/// Where the buffers of a device are before the calls of a batch.
+#[derive(Clone, Copy)]
 enum Before {
-    /// The call leaves the device where it was: nothing to do between batches.
-    Nothing,
-    /// Buffers are granted, and nothing streams.
-    Buffers,
-    /// A run is on.
-    Running,
-    /// A frame is outgoing in every buffer.
+    /// All are with the client, and nothing streams.
+    Dequeued,
+    /// All wait for a frame, the first buffer first, and nothing streams.
+    Queued,
+    /// A run is on, and all hold a frame, the first buffer first.
     Filled,
 }
 
-pub struct Call {
-    pub name: &'static str,
+/// How many calls a device gets in one batch.
+#[derive(Clone, Copy)]
+enum Calls {
+    /// Many: the call leaves the device as it was.
+    Many,
+    /// One for each of its buffers.
+    Buffers,
+    /// One.
+    Once,
+}
+
+#[derive(Clone, Copy)]
+struct Case {
+    name: &'static str,
     word: u32,
     fields: &'static [(usize, u32)],
+    buffers: u32,
     before: Before,
-    /// Each call of a batch goes to a device of its own, since it changes what the next would find.
-    apart: bool,
+    calls: Calls,
 }
 
-const fn plain(name: &'static str, word: u32, fields: &'static [(usize, u32)]) -> Call {
-    Call { name, word, fields, before: Before::Nothing, apart: false }
+impl Case {
+    /// Devices in a batch, and calls on each. All that they touch stays in the first cache.
+    fn shape(&self) -> (usize, usize) {
+        match self.calls {
+            Calls::Many => (1, 64),
+            Calls::Buffers => (32 / self.buffers as usize, self.buffers as usize),
+            Calls::Once => (16, 1),
+        }
+    }
+
+    /// The argument of a device's call of this number.
+    fn argument(&self, number: usize) -> Vec<u8> {
+        let mut argument = vec![0; size(self.word)];
+        let mut put = |at: usize, word: u32| argument[at..at + 4].copy_from_slice(&word.to_le_bytes());
+        for &(at, word) in self.fields {
+            put(at, word);
+        }
+        match self.word {
+            QBUF => put(0, number as u32),
+            QUERYBUF => put(0, self.buffers - 1),
+            REQBUFS => put(0, self.buffers),
+            _ => {}
+        }
+        argument
+    }
+
+    fn expected(&self) -> u32 {
+        if self.word == UNKNOWN {
+            22
+        } else {
+            0
+        }
+    }
+
+    /// The same with another number of buffers.
+    fn with(self, buffers: u32) -> Case {
+        Case { buffers, ..self }
+    }
+
+    fn row(self, name: String) -> Row {
+        let mut library = Batch::new(self, ffi::Device::zeroed);
+        let mut rust = Batch::new(self, model::Device::closed);
+        assert_eq!(library.answers(), rust.answers(), "{name}");
+        Row { name, library: Box::new(library), other: Box::new(rust) }
+    }
 }
 
-pub fn all() -> [Call; 18] {
-    let wish: &[(usize, u32)] = &[(0, 1), (4, 300), (8, 201), (12, YU12)];
-    let buffer: &[(usize, u32)] = &[(4, 1), (48, 1)];
-    [
-        plain("QUERYCAP", QUERYCAP, &[]),
-        plain("ENUM_FMT", ENUM_FMT, &[(0, 1), (4, 1)]),
-        plain("G_FMT", G_FMT, &[(0, 1)]),
-        plain("S_FMT", S_FMT, wish),
-        plain("TRY_FMT", TRY_FMT, wish),
-        plain("REQBUFS", REQBUFS, &[(0, 32), (4, 1), (8, 1)]),
-        Call { name: "QUERYBUF", word: QUERYBUF, fields: &[(0, 31), (4, 1)], before: Before::Filled, apart: false },
-        Call { name: "QBUF", word: QBUF, fields: buffer, before: Before::Buffers, apart: false },
-        Call { name: "DQBUF", word: DQBUF, fields: buffer, before: Before::Filled, apart: false },
-        Call { name: "STREAMON", word: STREAMON, fields: &[(0, 1)], before: Before::Buffers, apart: true },
-        Call { name: "STREAMOFF", word: STREAMOFF, fields: &[(0, 1)], before: Before::Running, apart: true },
-        plain("G_CTRL", G_CTRL, &[(0, CONTRAST)]),
-        plain("S_CTRL", S_CTRL, &[(0, CONTRAST), (4, 7)]),
-        plain("QUERYCTRL", QUERYCTRL, &[(0, CONTRAST)]),
-        plain("CROPCAP", CROPCAP, &[(0, 1)]),
-        plain("G_CROP", G_CROP, &[(0, 1)]),
-        plain("S_CROP", S_CROP, &[(0, 1), (4, 100), (8, 20), (12, 608), (16, 300)]),
-        plain("an unknown word", 0xC008_56FF, &[]),
-    ]
+const fn plain(name: &'static str, word: u32, fields: &'static [(usize, u32)]) -> Case {
+    Case { name, word, fields, buffers: USUAL, before: Before::Dequeued, calls: Calls::Many }
 }
 
-/// So many calls a batch, each with an argument of its own, written before the clock starts.
-const CALLS: usize = 32;
-/// So many devices where each call needs one: as many as stay in the first cache.
-const DEVICES: usize = 8;
+const WISH: &[(usize, u32)] = &[(0, 1), (4, 300), (8, 201), (12, YU12)];
+const BUFFER: &[(usize, u32)] = &[(4, 1), (48, 1)];
 
-struct Batch<'a, R> {
-    call: &'a Call,
-    devices: Vec<R>,
-    arguments: Vec<Vec<u8>>,
+const REQBUFS_CASE: Case =
+    Case { before: Before::Queued, calls: Calls::Once, ..plain("REQBUFS", REQBUFS, &[(4, 1), (8, 1)]) };
+const QUERYBUF_CASE: Case = Case { before: Before::Filled, ..plain("QUERYBUF", QUERYBUF, BUFFER) };
+const QBUF_CASE: Case = Case { calls: Calls::Buffers, ..plain("QBUF", QBUF, BUFFER) };
+const DQBUF_CASE: Case = Case { before: Before::Filled, calls: Calls::Buffers, ..plain("DQBUF", DQBUF, BUFFER) };
+const STREAMOFF_CASE: Case =
+    Case { before: Before::Filled, calls: Calls::Once, ..plain("STREAMOFF", STREAMOFF, &[(0, 1)]) };
+
+const CASES: [Case; 18] = [
+    plain("QUERYCAP", QUERYCAP, &[]),
+    plain("ENUM_FMT", ENUM_FMT, &[(0, 1), (4, 1)]),
+    plain("G_FMT", G_FMT, &[(0, 1)]),
+    // Refused while there are buffers, so there are none.
+    Case { buffers: 0, ..plain("S_FMT", S_FMT, WISH) },
+    plain("TRY_FMT", TRY_FMT, WISH),
+    REQBUFS_CASE,
+    QUERYBUF_CASE,
+    QBUF_CASE,
+    DQBUF_CASE,
+    Case { before: Before::Queued, calls: Calls::Once, ..plain("STREAMON", STREAMON, &[(0, 1)]) },
+    STREAMOFF_CASE,
+    plain("G_CTRL", G_CTRL, &[(0, CONTRAST)]),
+    plain("S_CTRL", S_CTRL, &[(0, CONTRAST), (4, 7)]),
+    plain("QUERYCTRL", QUERYCTRL, &[(0, CONTRAST)]),
+    plain("CROPCAP", CROPCAP, &[(0, 1)]),
+    plain("G_CROP", G_CROP, &[(0, 1)]),
+    plain("S_CROP", S_CROP, &[(0, 1), (4, 100), (8, 20), (12, 608), (16, 300)]),
+    plain("an unknown word", UNKNOWN, &[]),
+];
+
+/// What the second table says of its calls.
+const BY_BUFFERS: [(Case, &str); 5] = [
+    (QUERYBUF_CASE, "QUERYBUF of the last in line, all filled"),
+    (QBUF_CASE, "QBUF of each in turn, from none in line to all"),
+    (DQBUF_CASE, "DQBUF of each in turn, from all filled to none"),
+    (REQBUFS_CASE, "REQBUFS of as many anew, all in line and waiting"),
+    (STREAMOFF_CASE, "STREAMOFF, all filled"),
+];
+
+/// A call, and the device that it goes to. The argument is written before the clock starts.
+struct Step {
+    device: usize,
+    argument: Vec<u8>,
+}
+
+struct Batch<R> {
+    case: Case,
+    devices: Vec<Aligned<R>>,
+    steps: Vec<Step>,
+    first: Vec<Vec<u8>>,
     memory: Vec<u8>,
-    frame: Vec<u8>,
 }
 
-impl<'a, R: Recorder> Batch<'a, R> {
-    fn new(call: &'a Call, mut make: impl FnMut() -> R) -> Batch<'a, R> {
-        let count = if call.apart { DEVICES } else { 1 };
-        let mut devices: Vec<R> = (0..count).map(|_| make()).collect();
-        for device in &mut devices {
-            assert_eq!(device.open(&setup::bench_sheet(), MEMORY as u64), 0);
-            setup::done(device, S_FMT, &[(0, 1), (4, 160), (8, 120), (12, YUYV)]);
-            if call.before != Before::Nothing {
-                setup::done(device, REQBUFS, &[(0, 32), (4, 1), (8, 1)]);
-            }
+impl<R: Called> Batch<R> {
+    fn new(case: Case, make: impl Fn() -> R) -> Batch<R> {
+        let (count, each) = case.shape();
+        let mut devices: Vec<Aligned<R>> = (0..count).map(|_| Aligned(make())).collect();
+        for Aligned(device) in &mut devices {
+            setup::small(device, case.buffers);
         }
-        let calls = if call.apart { DEVICES } else { CALLS };
-        let arguments = vec![vec![0; size(call.word)]; calls];
-        Batch { call, devices, arguments, memory: vec![0; MEMORY], frame: vec![7; 38_400] }
+        let first: Vec<Vec<u8>> = (0..each).map(|number| case.argument(number)).collect();
+        let steps = (0..count * each).map(|i| Step { device: i / each, argument: first[i % each].clone() }).collect();
+        Batch { case, devices, steps, first, memory: vec![0; setup::MEMORY] }
     }
 
-    fn write_arguments(&mut self) {
-        for (i, argument) in self.arguments.iter_mut().enumerate() {
-            argument.fill(0);
-            for &(at, word) in self.call.fields {
-                argument[at..at + 4].copy_from_slice(&word.to_le_bytes());
-            }
-            if self.call.word == QBUF {
-                argument[..4].copy_from_slice(&(i as u32).to_le_bytes());
-            }
+    /// The answers of a batch. Each call has to be accepted, or the figure would be that of a refusal.
+    fn answers(&mut self) -> Vec<Vec<u8>> {
+        self.ready();
+        for step in &mut self.steps {
+            let number = self.devices[step.device].0.request(self.case.word, &mut step.argument);
+            assert_eq!(number, self.case.expected(), "{}", self.case.name);
         }
+        self.steps.iter().map(|step| step.argument.clone()).collect()
     }
 }
 
-fn fill<R: Recorder>(device: &mut R, memory: &mut [u8], frame: &[u8]) {
-    for index in 0..32 {
-        setup::done(device, QBUF, &[(0, index), (4, 1), (48, 1)]);
-    }
-    setup::done(device, STREAMON, &[(0, 1)]);
-    for i in 0..32 {
-        assert_eq!(device.arrival(memory, frame, i, i).answer, STORED);
-    }
-}
-
-impl<R: Recorder> Side for Batch<'_, R> {
+impl<R: Called> Side for Batch<R> {
     fn ready(&mut self) {
-        self.write_arguments();
-        for device in &mut self.devices {
-            if self.call.before != Before::Nothing {
-                setup::done(device, STREAMOFF, &[(0, 1)]);
+        let each = self.first.len();
+        for (i, step) in self.steps.iter_mut().enumerate() {
+            step.argument.copy_from_slice(&self.first[i % each]);
+        }
+        for Aligned(device) in &mut self.devices {
+            setup::done(device, STREAMOFF, &[(0, 1)]);
+            if matches!(self.case.before, Before::Queued | Before::Filled) {
+                setup::queue(device, self.case.buffers);
             }
-            match self.call.before {
-                Before::Nothing | Before::Buffers => {}
-                Before::Running => setup::done(device, STREAMON, &[(0, 1)]),
-                Before::Filled => fill(device, &mut self.memory, &self.frame),
+            if matches!(self.case.before, Before::Filled) {
+                setup::fill(device, self.case.buffers, &mut self.memory);
             }
         }
     }
 
     fn batch(&mut self) {
-        let apart = self.call.apart;
-        let word = black_box(self.call.word);
-        for (i, argument) in self.arguments.iter_mut().enumerate() {
-            let device = &mut self.devices[if apart { i } else { 0 }];
-            black_box(device.request(word, black_box(argument)));
+        let word = black_box(self.case.word);
+        for step in &mut self.steps {
+            black_box(self.devices[step.device].0.call_request(word, &mut step.argument));
         }
     }
-}
 
-/// The call has to be accepted in every batch, or the figure would be that of a refusal.
-fn accepted<R: Recorder>(side: &mut Batch<R>) {
-    side.ready();
-    let expected = if side.call.word == 0xC008_56FF { 22 } else { 0 };
-    for i in 0..side.arguments.len() {
-        let device = &mut side.devices[if side.call.apart { i } else { 0 }];
-        assert_eq!(device.request(side.call.word, &mut side.arguments[i]), expected, "{}", side.call.name);
+    fn calls(&self) -> usize {
+        self.steps.len()
     }
 }
 
-pub fn measure(call: &Call) -> (Figures, Figures) {
-    let mut left = Batch::new(call, setup::library);
-    let mut right = Batch::new(call, setup::rust);
-    accepted(&mut left);
-    accepted(&mut right);
-    assert_eq!(left.arguments, right.arguments, "{}", call.name);
-    let calls = left.arguments.len();
-    compare(&mut left, &mut right, calls)
+/// All requests, with the usual number of buffers.
+pub fn all() -> Vec<Row> {
+    CASES.iter().map(|case| case.row(case.name.into())).collect()
+}
+
+/// The requests whose cost can depend on the number of buffers.
+pub fn by_buffers() -> Vec<Row> {
+    let rows = BY_BUFFERS.iter().flat_map(|(case, name)| COUNTS.map(|count| (case.with(count), name, count)));
+    rows.map(|(case, name, count)| case.row(format!("{name}: {count} buffers"))).collect()
 }

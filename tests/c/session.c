@@ -108,16 +108,18 @@ static struct tg_arrived arrive(uint8_t fill, size_t length, int32_t seconds, in
 
 static void sizes(void)
 {
-    expect("sizeof tg_device", 3696, sizeof(struct tg_device));
+    expect("sizeof tg_device", 4520, sizeof(struct tg_device));
+    expect("sizeof tg_setup", 40, sizeof(struct tg_setup));
+    expect("sizeof tg_stream", 1664, sizeof(struct tg_stream));
     expect("sizeof tg_arrived", 12, sizeof(struct tg_arrived));
     expect("sizeof tg_plane", 24, sizeof(struct tg_plane));
-    expect("sizeof tg_filled", 20, sizeof(struct tg_filled));
     expect("offset of setup", 2688, offsetof(struct tg_device, setup));
-    expect("offset of values", 2720, offsetof(struct tg_device, values));
-    expect("offset of tally", 2848, offsetof(struct tg_device, tally));
-    expect("offset of counts", 2912, offsetof(struct tg_device, counts));
-    expect("offset of incoming", 2924, offsetof(struct tg_device, incoming));
-    expect("offset of outgoing", 3052, offsetof(struct tg_device, outgoing));
+    expect("offset of values", 2728, offsetof(struct tg_device, values));
+    expect("offset of video", 2856, offsetof(struct tg_device, video));
+    expect("offset of lined", 88, offsetof(struct tg_stream, lined));
+    expect("offset of spare", 96, offsetof(struct tg_stream, spare));
+    expect("offset of index", 128, offsetof(struct tg_stream, index));
+    expect("offset of maps", 1408, offsetof(struct tg_stream, maps));
 }
 
 static void closed(void)
@@ -135,10 +137,20 @@ static void closed(void)
     expect("bad sheet: closed", 22, tg_request(&box.device, calls[QUERYCAP].word, argument, 104));
 }
 
+/* What is not used yet stays zero. */
+static void unused(void)
+{
+    const struct tg_stream *v = &box.device.video;
+    int i;
+    for (i = 0; i < 4; i++) expect("video.spare", 0, v->spare[i]);
+    for (i = 0; i < 32; i++) expect("video.maps", 0, v->maps[i]);
+}
+
 static void opening(void)
 {
     uint8_t sheet[324], rest[2688 - 324];
     const struct tg_device *s = &box.device;
+    const struct tg_stream *v = &box.device.video;
     size_t length = make_sheet(sheet);
     int i;
     memset(&box, 0xA5, sizeof box);
@@ -150,25 +162,51 @@ static void opening(void)
     expect("format.width", 640, s->setup.format.width);
     expect("format.height", 480, s->setup.format.height);
     expect("format.code", YUYV, s->setup.format.code);
+    expect("format.line", 1280, s->setup.format.line);
+    expect("format.size", 614400, s->setup.format.size);
     expect("crop.left", (uint32_t)-8, (uint32_t)s->setup.crop.left);
+    expect("crop.top", 0, (uint32_t)s->setup.crop.top);
+    expect("crop.width", 640, (uint32_t)s->setup.crop.width);
     expect("crop.height", 400, (uint32_t)s->setup.crop.height);
     expect("values[0]", (uint32_t)-2, s->values[0]);
     for (i = 1; i < 32; i++) expect("values[i]", 0, s->values[i]);
-    expect("tally.length", MEMORY, s->tally.length);
-    expect("tally.streaming", 0, s->tally.streaming);
-    expect("tally.ran", 0, s->tally.ran);
-    expect("counts.granted", 0, s->counts.granted);
-    expect("outgoing[31].time", 0, (uint32_t)s->outgoing[31].time.microseconds);
+    expect("video.length", MEMORY, v->length);
+    expect("video.streaming", 0, v->streaming);
+    expect("video.ran", 0, v->ran);
+    expect("video.accepted", 0, v->accepted);
+    expect("video.handed", 0, v->handed);
+    expect("video.damaged", 0, v->damaged);
+    expect("video.dropped", 0, v->dropped);
+    expect("video.discarded", 0, v->discarded);
+    expect("video.granted", 0, v->granted);
+    expect("video.head", 0, v->head);
+    expect("video.holding", 0, v->holding);
+    expect("video.lined", 0, v->lined);
+    for (i = 0; i < 32; i++) {
+        expect("video.index", 0, v->index[i]);
+        expect("video.number", 0, v->number[i]);
+        expect("video.used", 0, v->used[i]);
+        expect("video.seconds", 0, v->seconds[i]);
+        expect("video.microseconds", 0, v->microseconds[i]);
+    }
+    unused();
 }
 
 static void settings(void)
 {
     const struct tg_device *s = &box.device;
+    expect("S_FMT", 0, simple(S_FMT, 1, 304, 224, YU12, 0));
+    expect("format.code", YU12, s->setup.format.code);
+    expect("format.line", 320, s->setup.format.line);
+    expect("format.size", 107520, s->setup.format.size);
     expect("S_FMT", 0, simple(S_FMT, 1, WIDTH, HEIGHT, YUYV, 0));
     expect("S_FMT: line", LINE, get(argument + 20));
     expect("S_FMT: image", IMAGE, get(argument + 24));
     expect("format.width", WIDTH, s->setup.format.width);
     expect("format.height", HEIGHT, s->setup.format.height);
+    expect("format.code", YUYV, s->setup.format.code);
+    expect("format.line", LINE, s->setup.format.line);
+    expect("format.size", IMAGE, s->setup.format.size);
     expect("S_CROP", 0, simple(S_CROP, 1, 20, 30, 500, 300));
     expect("crop.left", 20, (uint32_t)s->setup.crop.left);
     expect("crop.top", 30, (uint32_t)s->setup.crop.top);
@@ -180,20 +218,56 @@ static void settings(void)
     expect("wrong length", 14, tg_request(&box.device, calls[G_FMT].word, argument, 203));
 }
 
-static void capture(void)
+/* How many of the line hold a frame, and how many stand in it. */
+static void line(uint64_t holding, uint64_t lined)
 {
-    const struct tg_device *s = &box.device;
+    expect("video.holding", holding, box.device.video.holding);
+    expect("video.lined", lined, box.device.video.lined);
+}
+
+/* The place of the i-th of the line. */
+static unsigned place(uint64_t i)
+{
+    return (unsigned)((box.device.video.head + i) % 32);
+}
+
+/* The i-th of the line holds this frame. */
+static void holds(uint64_t i, uint32_t index, uint32_t number, int32_t seconds, int32_t microseconds)
+{
+    const struct tg_stream *v = &box.device.video;
+    expect("video.index", index, v->index[place(i)]);
+    expect("video.number", number, v->number[place(i)]);
+    expect("video.used", IMAGE, v->used[place(i)]);
+    expect("video.seconds", (uint32_t)seconds, v->seconds[place(i)]);
+    expect("video.microseconds", (uint32_t)microseconds, v->microseconds[place(i)]);
+}
+
+/* The oldest frame is handed over: this buffer, with this number. The line begins one place further on. */
+static void handed_over(uint32_t index, uint32_t number)
+{
+    unsigned next = place(1);
+    expect("DQBUF", 0, buffer(DQBUF, 0));
+    expect("DQBUF: index", index, get(argument));
+    expect("DQBUF: number", number, get(argument + 44));
+    expect("video.head", next, place(0));
+}
+
+/* All 32 buffers are handed in, the last one first, and filled. */
+static void fill(void)
+{
+    const struct tg_stream *v = &box.device.video;
     struct tg_arrived a;
     uint32_t i;
     expect("REQBUFS", 0, simple(REQBUFS, 40, 1, 1, 0, 0));
-    expect("counts.granted", 32, s->counts.granted);
-    for (i = 0; i < 32; i++) expect("QBUF", 0, buffer(QBUF, 31 - i));
-    expect("counts.queued", 32, s->counts.queued);
-    expect("incoming[0]", 31, s->incoming[0]);
-    expect("incoming[30]", 1, s->incoming[30]);
+    expect("video.granted", 32, v->granted);
+    for (i = 0; i < 32; i++) {
+        expect("QBUF", 0, buffer(QBUF, 31 - i));
+        line(0, i + 1);
+    }
+    for (i = 0; i < 32; i++) expect("video.index", 31 - i, v->index[place(i)]);
     expect("STREAMON", 0, simple(STREAMON, 1, 0, 0, 0, 0));
-    expect("tally.streaming", 1, s->tally.streaming);
-    expect("tally.ran", 1, s->tally.ran);
+    expect("video.streaming", 1, v->streaming);
+    expect("video.ran", 1, v->ran);
     expect("verdict", TG_RUNNING, tg_verdict(&box.device));
     expect("DQBUF", 11, buffer(DQBUF, 0));
     expect("short frame", TG_DAMAGED, arrive(1, IMAGE - 1, 1, 1).answer);
@@ -203,41 +277,107 @@ static void capture(void)
         expect("stored: number", i, a.number);
         expect("stored: buffer", 32 - i, a.buffer);
         expect("stored: bytes", i, memory[(32 - i) * SLOT + IMAGE - 1]);
+        line(i, 32);
     }
     expect("no buffer", TG_DROPPED, arrive(99, IMAGE, 0, 0).answer);
-    expect("tally.accepted", 34, s->tally.accepted);
-    expect("tally.damaged", 1, s->tally.damaged);
-    expect("tally.dropped", 1, s->tally.dropped);
-    expect("counts.queued", 0, s->counts.queued);
-    expect("counts.done", 32, s->counts.done);
-    for (i = 0; i < 32; i++) {
-        expect("outgoing.index", 31 - i, s->outgoing[i].index);
-        expect("outgoing.number", i + 1, s->outgoing[i].number);
-        expect("outgoing.used", IMAGE, s->outgoing[i].used);
-        expect("outgoing.seconds", -(uint32_t)(i + 1), (uint32_t)s->outgoing[i].time.seconds);
-        expect("outgoing.microseconds", i + 1, (uint32_t)s->outgoing[i].time.microseconds);
-    }
-    expect("DQBUF", 0, buffer(DQBUF, 0));
-    expect("DQBUF: index", 31, get(argument));
+    expect("video.accepted", 34, v->accepted);
+    expect("video.damaged", 1, v->damaged);
+    expect("video.dropped", 1, v->dropped);
+    for (i = 0; i < 32; i++) holds(i, 31 - i, i + 1, -(int32_t)(i + 1), (int32_t)(i + 1));
+}
+
+/* Five frames are handed over, two buffers come back, one of them is filled: the line goes on at the arrays' start. */
+static void go_on(void)
+{
+    const struct tg_stream *v = &box.device.video;
+    uint32_t i;
+    handed_over(31, 1);
     expect("DQBUF: bytes used", IMAGE, get(argument + 8));
     expect("DQBUF: seconds", (uint32_t)-1, get(argument + 20));
-    expect("DQBUF: number", 1, get(argument + 44));
+    expect("DQBUF: microseconds", 1, get(argument + 24));
     expect("DQBUF: offset", 31 * SLOT, get(argument + 52));
     expect("DQBUF: length", SLOT, get(argument + 56));
-    expect("tally.handed", 1, s->tally.handed);
+    for (i = 1; i < 5; i++) handed_over(31 - i, i + 1);
+    expect("video.handed", 5, v->handed);
+    line(27, 27);
+    expect("QBUF", 0, buffer(QBUF, 29));
+    expect("QBUF", 0, buffer(QBUF, 31));
+    line(27, 29);
+    expect("video.index", 29, v->index[place(27)]);
+    expect("video.index", 31, v->index[place(28)]);
+    expect("QBUF of one in the line", 22, buffer(QBUF, 29));
+    expect("stored", 29, arrive(77, IMAGE, -2147483647 - 1, 999999).buffer);
+    line(28, 29);
+    for (i = 0; i < 27; i++) holds(i, 26 - i, i + 6, -(int32_t)(i + 6), (int32_t)(i + 6));
+    holds(27, 29, 34, -2147483647 - 1, 999999);
+    expect("video.index", 31, v->index[place(28)]);
+    expect("QUERYBUF", 0, buffer(QUERYBUF, 29));
+    expect("QUERYBUF: flags", 4, get(argument + 12));
+    expect("QUERYBUF: seconds", 0x80000000u, get(argument + 20));
+    expect("QUERYBUF: number", 34, get(argument + 44));
+    expect("QUERYBUF", 0, buffer(QUERYBUF, 31));
+    expect("QUERYBUF: flags", 2, get(argument + 12));
     expect("STREAMOFF", 0, simple(STREAMOFF, 1, 0, 0, 0, 0));
-    expect("tally.discarded", 31, s->tally.discarded);
+    line(0, 0);
+    expect("video.streaming", 0, v->streaming);
+    expect("video.ran", 1, v->ran);
+    expect("video.accepted", 35, v->accepted);
+    expect("video.handed", 5, v->handed);
+    expect("video.discarded", 28, v->discarded);
+    expect("video.granted", 32, v->granted);
     expect("verdict", TG_GAPS, tg_verdict(&box.device));
+}
+
+/* Three buffers, 40 frames: the line goes round the arrays. While one frame waits to be handed over the next arrives. */
+static void go_round(void)
+{
+    const struct tg_stream *v = &box.device.video;
+    uint32_t i;
+    expect("REQBUFS", 0, simple(REQBUFS, 3, 1, 1, 0, 0));
+    expect("video.granted", 3, v->granted);
+    expect("STREAMON", 0, simple(STREAMON, 1, 0, 0, 0, 0));
+    expect("video.accepted", 0, v->accepted);
+    expect("video.handed", 0, v->handed);
+    expect("video.damaged", 0, v->damaged);
+    expect("video.dropped", 0, v->dropped);
+    expect("video.discarded", 0, v->discarded);
+    expect("QBUF", 0, buffer(QBUF, 0));
+    expect("stored", TG_STORED, arrive(1, IMAGE, -1, 0).answer);
+    for (i = 1; i < 40; i++) {
+        expect("QBUF", 0, buffer(QBUF, i % 3));
+        line(1, 2);
+        expect("stored: buffer", i % 3, arrive((uint8_t)i, IMAGE, (int32_t)i - 1, (int32_t)i).buffer);
+        line(2, 2);
+        holds(0, (i - 1) % 3, i - 1, (int32_t)i - 2, (int32_t)i - 1);
+        holds(1, i % 3, i, (int32_t)i - 1, (int32_t)i);
+        handed_over((i - 1) % 3, i - 1);
+    }
+    handed_over(39 % 3, 39);
+    line(0, 0);
+    expect("DQBUF", 11, buffer(DQBUF, 0));
+    expect("STREAMOFF", 0, simple(STREAMOFF, 1, 0, 0, 0, 0));
+    expect("video.accepted", 40, v->accepted);
+    expect("video.handed", 40, v->handed);
+    expect("video.discarded", 0, v->discarded);
+    expect("verdict", TG_COMPLETE, tg_verdict(&box.device));
+    unused();
+}
+
+static void outside_a_run(void)
+{
+    struct tg_arrived a;
     expect("ignored", TG_IGNORED, arrive(1, IMAGE, 0, 0).answer);
     a = tg_arrival(&box.device, memory, sizeof memory - 1, frame, IMAGE, 0, 0);
     expect("wrong memory", TG_REFUSED, a.answer);
     expect("wrong memory: number", 14, a.number);
+    expect("video.length", MEMORY, box.device.video.length);
 }
 
 static void planes(void)
 {
     struct tg_plane p;
     expect("REQBUFS 0", 0, simple(REQBUFS, 0, 1, 1, 0, 0));
+    expect("video.granted", 0, box.device.video.granted);
     expect("S_FMT", 0, simple(S_FMT, 1, 304, 224, YU12, 0));
     p = tg_plane(&box.device, 107520, 2);
     expect("plane: number", 0, p.number);
@@ -255,7 +395,10 @@ int main(void)
     closed();
     opening();
     settings();
-    capture();
+    fill();
+    go_on();
+    go_round();
+    outside_a_run();
     planes();
     for (i = 0; i < GUARD; i++) expect("guards", 0xA5A5, (uint64_t)box.before[i] << 8 | box.behind[i]);
     if (failures) printf("%d failures\n", failures);

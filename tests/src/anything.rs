@@ -3,7 +3,7 @@
 //! must change nothing.
 
 use crate::coverage::{Coverage, NUMBERS};
-use crate::ffi::{Device, DEVICE_SIZE};
+use crate::ffi::{at, Device, DEVICE_SIZE};
 use crate::generate::{self, sheets};
 use crate::guarded::Guarded;
 use crate::model;
@@ -12,12 +12,36 @@ use crate::recorder::{Arrived, Recorder, BLANK, COMPLETE, REFUSED, STORED};
 use crate::session::{Arrival, Lent, Step};
 use crate::show;
 
-/// Where the C interface has the state, and in it the length of the picture memory.
-const STATE_AT: usize = 2688;
-const LENGTH_AT: usize = STATE_AT + 160;
-/// Whether it streams, and how many arrivals the run accepted.
-const STREAMING_AT: usize = LENGTH_AT + 8;
-const ACCEPTED_AT: usize = LENGTH_AT + 24;
+/// Numbers for words of 64 bits: small, about 32, about 2^32 and about 2^64.
+pub const NUMBERS_64: [u64; 24] = [
+    0,
+    1,
+    2,
+    7,
+    8,
+    9,
+    30,
+    31,
+    32,
+    33,
+    63,
+    64,
+    4096,
+    1 << 31,
+    (1 << 32) - 2,
+    (1 << 32) - 1,
+    1 << 32,
+    (1 << 32) + 1,
+    (1 << 32) + 31,
+    (1 << 63) - 1,
+    1 << 63,
+    u64::MAX - 31,
+    u64::MAX - 1,
+    u64::MAX,
+];
+
+/// The same for words of 32 bits.
+pub const NUMBERS_32: [u32; 12] = [0, 1, 2, 31, 32, 33, 255, 4096, 0x7fff_ffff, 0x8000_0000, u32::MAX - 1, u32::MAX];
 
 /// Runs about this many calls; says what went wrong, if anything did.
 pub fn run(seed: u64, calls: u64) -> Result<Coverage, String> {
@@ -78,13 +102,13 @@ fn spoiled(
     coverage: &mut Coverage,
 ) -> Result<(), String> {
     if random.chance(5) {
-        change_word(random, &mut device.bytes[STATE_AT..]);
+        change_word(random, device, at::SETUP);
     }
     match step {
         // A device that was opened well gets one change at least.
         Step::Open { sheet, .. } if random.chance(50) => {
             device.open(sheet, memory.body().len() as u64);
-            change_word(random, &mut device.bytes[STATE_AT..]);
+            change_word(random, device, at::SETUP);
         }
         Step::Open { .. } => {}
         Step::Request { word, argument } => coverage.request(*word, request(device, *word, argument)?),
@@ -101,47 +125,81 @@ fn content(random: &mut Random, length: u64) -> Device {
         0 => random.fill(&mut device.bytes),
         1 => {
             device.open(&sheets::small(random).bytes(), length);
-            random.fill(&mut device.bytes[STATE_AT..]);
+            random.fill(&mut device.bytes[at::SETUP..]);
         }
         2 => {
             device.open(&sheets::limits(random).bytes(), length);
             for _ in 0..random.between(1, 40) {
-                change_word(random, &mut device.bytes[STATE_AT..]);
+                change_word(random, &mut device, at::SETUP);
             }
         }
         _ => {
             device.open(&sheets::small(random).bytes(), length);
             for _ in 0..random.between(1, 20) {
-                change_word(random, &mut device.bytes);
+                change_word(random, &mut device, 0);
             }
         }
     }
-    let mut put = |at: usize, bytes: &[u8]| device.bytes[at..at + bytes.len()].copy_from_slice(bytes);
+    if random.chance(50) {
+        make_line(random, &mut device);
+    }
     if random.chance(80) {
         // Let the device count as opened, and its memory as the one that is lent.
-        put(STATE_AT, &1u32.to_le_bytes());
-        put(LENGTH_AT, &length.to_le_bytes());
+        device.bytes[at::SETUP..at::SETUP + 4].copy_from_slice(&1u32.to_le_bytes());
+        device.put_word(at::LENGTH, length);
     }
     if random.chance(30) {
-        put(STREAMING_AT, &1u32.to_le_bytes());
+        device.put_word(at::STREAMING, 1);
     }
     if random.chance(10) {
         // Near the last number of a run.
-        let near = u64::from(u32::MAX) + random.below(5) as u64 - 2;
-        put(ACCEPTED_AT, &near.to_le_bytes());
+        device.put_word(at::ACCEPTED, u64::from(u32::MAX) + random.below(5) as u64 - 2);
     }
     device
 }
 
-/// One word becomes a number that is small, or at an end of the numbers, or any.
-fn change_word(random: &mut Random, bytes: &mut [u8]) {
-    let at = 4 * random.below(bytes.len() / 4);
-    let any = random.word();
-    let word = random.pick(&[0, 1, 2, 31, 32, 33, 255, 4096, 0x7fff_ffff, 0x8000_0000, u32::MAX, any]);
-    bytes[at..at + 4].copy_from_slice(&word.to_le_bytes());
+/// A line of buffers that may be right or nearly so: more of them than there can be, some of them twice.
+fn make_line(random: &mut Random, device: &mut Device) {
+    let head = number(random);
+    device.put_word(at::HEAD, head);
+    for count in [at::GRANTED, at::LINED, at::HOLDING] {
+        device.put_word(count, random.below(36) as u64);
+    }
+    for place in 0..32 {
+        device.put_word(at::INDEX + 8 * place, random.below(34) as u64);
+    }
 }
 
-fn check(holds: bool, fault: &str) -> Result<(), String> {
+/// A number for a word of 64 bits.
+fn number(random: &mut Random) -> u64 {
+    if random.chance(15) {
+        random.draw()
+    } else {
+        random.pick(&NUMBERS_64)
+    }
+}
+
+/// One word of the device becomes another: one of the twelve numbers of the stream, any word of the stream, or one of the
+/// words of 32 bits between `from` and the stream.
+fn change_word(random: &mut Random, device: &mut Device, from: usize) {
+    match random.weighted(&[4, 3, 3]) {
+        0 => {
+            let at = at::VIDEO + 8 * random.below(12);
+            device.put_word(at, number(random));
+        }
+        1 => {
+            let at = at::VIDEO + 8 * random.below((at::END - at::VIDEO) / 8);
+            device.put_word(at, number(random));
+        }
+        _ => {
+            let at = from + 4 * random.below((at::VIDEO - from) / 4);
+            let word = if random.chance(10) { random.word() } else { random.pick(&NUMBERS_32) };
+            device.bytes[at..at + 4].copy_from_slice(&word.to_le_bytes());
+        }
+    }
+}
+
+pub fn check(holds: bool, fault: &str) -> Result<(), String> {
     if holds {
         Ok(())
     } else {
@@ -156,7 +214,8 @@ fn kept(device: &Device) -> Vec<u8> {
     bytes
 }
 
-fn request(device: &mut Device, word: u32, argument: &[u8]) -> Result<u32, String> {
+/// A request, with what holds of every request.
+pub fn request(device: &mut Device, word: u32, argument: &[u8]) -> Result<u32, String> {
     let before = kept(device);
     let mut lent = Guarded::default();
     lent.set(argument, argument.len());
@@ -169,13 +228,19 @@ fn request(device: &mut Device, word: u32, argument: &[u8]) -> Result<u32, Strin
     Ok(number)
 }
 
-fn arrival(device: &mut Device, memory: &mut Guarded, one: &Arrival, random: &mut Random) -> Result<Arrived, String> {
-    let before = kept(device);
+/// An arrival, with what holds of every arrival.
+pub fn arrival(
+    device: &mut Device,
+    memory: &mut Guarded,
+    one: &Arrival,
+    random: &mut Random,
+) -> Result<Arrived, String> {
     let held = memory.body().to_vec();
     // A device of any content has any image size: ask it for one that it would take.
     let mut format = [0; 204];
     format[0] = 1;
     device.request(model::words::G_FMT, &mut format);
+    let before = kept(device);
     let size = u32::from_le_bytes([format[24], format[25], format[26], format[27]]) as usize;
     let length = if size <= 100_000 && random.chance(70) { size } else { one.frame_length };
     let mut frame = Guarded::default();
@@ -203,13 +268,11 @@ fn arrival(device: &mut Device, memory: &mut Guarded, one: &Arrival, random: &mu
     Ok(arrived)
 }
 
-fn plane(device: &Device, frame_length: usize, plane: u32) -> Result<(), String> {
+/// A plane, with what holds of every plane.
+pub fn plane(device: &Device, frame_length: usize, plane: u32) -> Result<(), String> {
     let answer = device.plane(frame_length, plane);
     let inside = answer.start.checked_add(answer.length).is_some_and(|end| end <= frame_length);
     check(matches!(answer.number, 0 | 22), "a number that is none")?;
     check(inside, "a plane outside its frame")?;
     check(answer.number == 0 || (answer.start, answer.length) == (0, 0), "a refused plane with bytes")
 }
-
-// The state ends with the device.
-const _: () = assert!(STATE_AT + 1008 == DEVICE_SIZE);

@@ -3,11 +3,30 @@
 use crate::random;
 use crate::recorder::{Arrived, Plane, Recorder};
 
-/// The size of the C interface's device, in bytes.
-pub const DEVICE_SIZE: usize = 3696;
+/// The size of the C interface's device, in bytes. There is nothing between its fields or behind them.
+pub const DEVICE_SIZE: usize = 4520;
 
-/// The bytes between the fields of the header's structs and behind them: they hold nothing.
-const PADDING: [(usize, usize); 1] = [(3692, 3696)];
+/// Where the header has the fields, for tests that put numbers there which no call would.
+pub mod at {
+    /// The setup and the values of the controls: words of 32 bits.
+    pub const SETUP: usize = 2688;
+    pub const VALUES: usize = SETUP + 40;
+    /// The stream: words of 64 bits. First twelve numbers.
+    pub const VIDEO: usize = VALUES + 128;
+    pub const LENGTH: usize = VIDEO;
+    pub const STREAMING: usize = VIDEO + 8;
+    pub const ACCEPTED: usize = VIDEO + 24;
+    pub const DROPPED: usize = VIDEO + 48;
+    pub const GRANTED: usize = VIDEO + 64;
+    pub const HEAD: usize = VIDEO + 72;
+    pub const HOLDING: usize = VIDEO + 80;
+    pub const LINED: usize = VIDEO + 88;
+    /// Behind four spare words: six arrays of 32, the indices of the line first.
+    pub const INDEX: usize = VIDEO + 128;
+    pub const END: usize = INDEX + 6 * 256;
+}
+
+const _: () = assert!(at::END == DEVICE_SIZE);
 
 /// The device as the C interface lays it out; its bytes are the library's own.
 #[repr(C, align(8))]
@@ -35,6 +54,18 @@ extern "C" {
 impl Device {
     pub const fn zeroed() -> Device {
         Device { bytes: [0; DEVICE_SIZE] }
+    }
+
+    /// A word of the stream.
+    pub fn word(&self, at: usize) -> u64 {
+        let mut word = [0; 8];
+        word.copy_from_slice(&self.bytes[at..at + 8]);
+        u64::from_le_bytes(word)
+    }
+
+    /// Puts a word into the stream, past all calls.
+    pub fn put_word(&mut self, at: usize, word: u64) {
+        self.bytes[at..at + 8].copy_from_slice(&word.to_le_bytes());
     }
 }
 
@@ -71,9 +102,6 @@ impl Recorder for Device {
     fn content(&self, into: &mut Vec<u8>) {
         into.clear();
         into.extend_from_slice(&self.bytes);
-        for (from, to) in PADDING {
-            into[from..to].fill(0);
-        }
     }
 
     fn scramble(&mut self, seed: u64) {

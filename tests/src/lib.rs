@@ -20,4 +20,6 @@ pub mod trace;
 #[cfg(feature = "library")]
 pub mod anything;
 #[cfg(feature = "library")]
+pub mod each_word;
+#[cfg(feature = "library")]
 pub mod ffi;

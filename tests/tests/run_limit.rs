@@ -4,18 +4,9 @@
 
 use tollgutter_tests::ask::done;
 use tollgutter_tests::draft::Draft;
-use tollgutter_tests::ffi::Device;
+use tollgutter_tests::ffi::{at, Device};
 use tollgutter_tests::model::words::*;
 use tollgutter_tests::recorder::*;
-
-/// In the header: the sheet, the setup, the values of the controls, then the tally, eight numbers of 64 bits.
-const TALLY_AT: usize = 2688 + 32 + 128;
-const ACCEPTED_AT: usize = TALLY_AT + 24;
-const DROPPED_AT: usize = TALLY_AT + 48;
-
-fn count(device: &Device, at: usize) -> u64 {
-    u64::from_le_bytes(device.bytes[at..at + 8].try_into().unwrap())
-}
 
 fn kept(device: &Device) -> Vec<u8> {
     let mut bytes = Vec::new();
@@ -33,12 +24,11 @@ fn the_library_ends_a_run_at_its_limit() {
     let size = u32::from_le_bytes(done(&mut device, G_FMT, &[(0, 1)])[24..28].try_into().unwrap());
     let frame = vec![3; size as usize];
     assert_eq!(device.arrival(&mut memory, &frame, 0, 0).answer, DROPPED);
-    assert_eq!((count(&device, ACCEPTED_AT), count(&device, DROPPED_AT)), (1, 1));
+    assert_eq!((device.word(at::ACCEPTED), device.word(at::DROPPED)), (1, 1));
 
     let almost = u64::from(u32::MAX) - 1;
-    for at in [ACCEPTED_AT, DROPPED_AT] {
-        device.bytes[at..at + 8].copy_from_slice(&almost.to_le_bytes());
-    }
+    device.put_word(at::ACCEPTED, almost);
+    device.put_word(at::DROPPED, almost);
     done(&mut device, QBUF, &[(0, 0), (4, 1), (48, 1)]);
     let last = device.arrival(&mut memory, &frame, 0, 0);
     assert_eq!(last, Arrived { answer: STORED, number: u32::MAX - 1, buffer: 0 });

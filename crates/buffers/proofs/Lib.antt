@@ -1,6 +1,7 @@
-pub mod Entries
-pub mod Counts
-pub mod Moved
-pub mod Scan
+pub mod Kept
+pub mod Record
+pub mod Found
 pub mod Slots
+pub mod Stores
+pub mod Tabs
 pub mod Views

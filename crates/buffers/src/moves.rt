@@ -1,123 +1,78 @@
-// How buffers move between the queues. The others in a queue move up when the oldest leaves. An array is lent as a slice, `words`, where
-// the proof has to know how many elements it has: of an array behind a reference only such a loan tells.
+// How buffers move between the queues. The array is lent as a slice, `_words`, where the proof has to know how many elements it has: of
+// an array behind a reference only such a loan tells.
 ghost use mathlib.Core.Path.{_≡_};
-ghost use mathlib.Core.List.{List};
-ghost use Prim.Native.Nat.{ℕ};
-ghost use lib.ListN.{set};
-ghost use Rattle.buffers.specs.declared.Filled.{Filled};
-ghost use Rattle.buffers.specs.Queues.{emptyQueues, pushed, filledOldest, popped, queuesOf, entriesOf, noFrame, shift};
-use crate::Counts;
-use crate::DONE;
-use crate::Entries;
+ghost use Rattle.buffers.specs.Stream.{onQueues};
+ghost use Rattle.buffers.specs.Words.{low, streamIn};
+ghost use Rattle.buffers.specs.Moves.{emptied, pushed, filledOldest, popped};
 use crate::GRANTED;
-use crate::Indices;
-use crate::QUEUED;
+use crate::HEAD;
+use crate::HOLDING;
+use crate::INDEX;
+use crate::LINED;
+use crate::MICROSECONDS;
+use crate::NUMBER;
+use crate::SECONDS;
 use crate::Time;
+use crate::USED;
+use crate::Words;
+use crate::line;
 
 // So many buffers, none of them in a queue.
-pub fn empty(counts: &mut Counts, granted: u32)
-    ensures { λ _. ⌜ ((i : List ℕ) (o : List Filled) → queuesOf (now (counts .exit)) i o ≡ emptyQueues (queuesOf (now (counts .entry)) i o) granted) ⌝ }
+pub fn empty(s: &mut Words, granted: u64)
+    ensures { λ _. ⌜ streamIn (now (s .exit)) ≡ onQueues (λ q. emptied granted) (streamIn (now (s .entry))) ⌝ }
 {
-    let _words: &[u32] = counts;
-    counts[GRANTED] = granted;
-    counts[QUEUED] = 0;
-    counts[DONE] = 0;
+    let _words: &[u64] = s;
+    s[GRANTED] = granted;
+    s[HOLDING] = 0;
+    s[LINED] = 0;
 }
 
 // Buffer k becomes the youngest that waits for a frame.
-pub fn push_incoming(counts: &mut Counts, incoming: &mut Indices, k: u32)
-    ensures { λ _. ⌜ ((o : List Filled) → queuesOf (now (counts .exit)) (now (incoming .exit)) o ≡ pushed (queuesOf (now (counts .entry)) (now (incoming .entry)) o) k) ⌝ }
+pub fn push(s: &mut Words, k: u32)
+    ensures { λ _. ⌜ streamIn (now (s .exit)) ≡ onQueues (λ q. pushed q k) (streamIn (now (s .entry))) ⌝ }
 {
-    let words: &[u32] = counts;
-    let at = words[QUEUED];
-    if at < 32 {
-        incoming[at as usize] = k;
-        counts[QUEUED] = at + 1;
-    }
-}
-
-// The indices without the first, and a zero at the end.
-fn shift_indices(incoming: &mut Indices)
-    ensures { λ _. ⌜ now (incoming .exit) ≡ shift 0 (now (incoming .entry)) ⌝ }
-{
-    let _words: &[u32] = incoming;
-    let mut i: usize = 0;
-    while i < 31 {
-        incoming[i] = incoming[i + 1];
-        i += 1;
-    }
-    incoming[31] = 0;
-}
-
-// The entries without the first, and one of zeros at the end.
-fn shift_entries(outgoing: &mut Entries)
-    ensures { λ _. ⌜ entriesOf 32 (now (outgoing .exit)) ≡ shift noFrame (entriesOf 32 (now (outgoing .entry))) ⌝ }
-{
-    let _words: &[u32] = outgoing;
-    let mut i: usize = 0;
-    while i < 155 {
-        outgoing[i] = outgoing[i + 5];
-        i += 1;
-    }
-    outgoing[155] = 0;
-    outgoing[156] = 0;
-    outgoing[157] = 0;
-    outgoing[158] = 0;
-    outgoing[159] = 0;
-}
-
-// An entry stored at a place, as far as there are places.
-fn put_entry(outgoing: &mut Entries, k: usize, index: u32, number: u32, used: u32, time: Time)
-    ensures { λ _. ⌜ entriesOf 32 (now (outgoing .exit)) ≡ set (entriesOf 32 (now (outgoing .entry))) k (record { index = index; number = number; used = used; time = time }) ⌝ }
-{
-    if 32 <= k {
+    let n = line::lined(s);
+    if 32 <= n {
         return;
     }
-    let _words: &[u32] = outgoing;
-    let at = 5 * k;
-    outgoing[at] = index;
-    outgoing[at + 1] = number;
-    outgoing[at + 2] = used;
-    outgoing[at + 3] = wire::as_bits(time.seconds);
-    outgoing[at + 4] = wire::as_bits(time.microseconds);
+    let d = line::holding(s);
+    let p = line::place(s, n);
+    let _words: &[u64] = s;
+    s[INDEX + p] = k as u64;
+    s[HOLDING] = d;
+    s[LINED] = n + 1;
 }
 
 // The oldest that waits for a frame becomes the youngest that holds one.
-pub fn fill_oldest(
-    counts: &mut Counts,
-    incoming: &mut Indices,
-    outgoing: &mut Entries,
-    number: u32,
-    used: u32,
-    time: Time,
-)
-    ensures { λ _. ⌜ queuesOf (now (counts .exit)) (now (incoming .exit)) (entriesOf 32 (now (outgoing .exit)))
-        ≡ filledOldest (queuesOf (now (counts .entry)) (now (incoming .entry)) (entriesOf 32 (now (outgoing .entry)))) number used time ⌝ }
+pub fn fill(s: &mut Words, number: u64, used: u32, time: Time)
+    ensures { λ _. ⌜ streamIn (now (s .exit)) ≡ onQueues (λ q. filledOldest q (low number) used time) (streamIn (now (s .entry))) ⌝ }
 {
-    let words: &[u32] = counts;
-    let queued = words[QUEUED];
-    let done = words[DONE];
-    if queued == 0 {
+    let d = line::holding(s);
+    if line::lined(s) <= d {
         return;
     }
-    if 32 <= done {
-        return;
-    }
-    put_entry(outgoing, done as usize, incoming[0], number, used, time);
-    shift_indices(incoming);
-    counts[QUEUED] = queued - 1;
-    counts[DONE] = done + 1;
+    let p = line::place(s, d);
+    let seconds = wire::as_bits(time.seconds);
+    let microseconds = wire::as_bits(time.microseconds);
+    let _words: &[u64] = s;
+    s[NUMBER + p] = number;
+    s[USED + p] = used as u64;
+    s[SECONDS + p] = seconds as u64;
+    s[MICROSECONDS + p] = microseconds as u64;
+    s[HOLDING] = d + 1;
 }
 
 // The oldest that holds a frame leaves the queues.
-pub fn pop_outgoing(counts: &mut Counts, outgoing: &mut Entries)
-    ensures { λ _. ⌜ ((i : List ℕ) → queuesOf (now (counts .exit)) i (entriesOf 32 (now (outgoing .exit))) ≡ popped (queuesOf (now (counts .entry)) i (entriesOf 32 (now (outgoing .entry))))) ⌝ }
+pub fn pop(s: &mut Words)
+    ensures { λ _. ⌜ streamIn (now (s .exit)) ≡ onQueues (λ q. popped q) (streamIn (now (s .entry))) ⌝ }
 {
-    let words: &[u32] = counts;
-    let done = words[DONE];
-    if done == 0 {
+    let d = line::holding(s);
+    if d == 0 {
         return;
     }
-    shift_entries(outgoing);
-    counts[DONE] = done - 1;
+    let n = line::lined(s);
+    let _words: &[u64] = s;
+    s[HEAD] = (s[HEAD] % 32 + 1) % 32;
+    s[HOLDING] = d - 1;
+    s[LINED] = n - 1;
 }

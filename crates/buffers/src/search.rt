@@ -1,65 +1,66 @@
-// Whether a buffer is in a queue. An array is read as a slice where the proof has to know its length, or that a number fits.
+// Where a buffer stands in the line.
 ghost use mathlib.Core.Path.{_≡_};
-ghost use mathlib.Core.List.{List};
-ghost use Prim.Native.Nat.{ℕ};
-ghost use Rattle.buffers.specs.declared.Filled.{Filled};
-ghost use Rattle.buffers.specs.Queues.{isIncoming, isOutgoing, entryOf, queuesOf, entriesOf};
-use crate::Counts;
-use crate::DONE;
-use crate::Entries;
-use crate::Found;
-use crate::Indices;
-use crate::QUEUED;
-use crate::entry;
+ghost use mathlib.Core.Bool.{_||_};
+ghost use Prim.Native.Nat.{_≤_};
+ghost use Rattle.buffers.specs.Words.{streamIn};
+ghost use Rattle.buffers.specs.Moves.{isIncoming, isOutgoing, standingOf};
+ghost use Rattle.buffers.specs.Found.{FoundIn, FoundAt};
+use crate::HEAD;
+use crate::INDEX;
+use crate::Standing;
+use crate::Words;
+use crate::line;
 
-// Whether buffer k waits for a frame.
-pub fn is_incoming(counts: &Counts, incoming: &Indices, k: u32) -> bool
-    ensures { λ r. ⌜ ((o : List Filled) → r ≡ isIncoming (queuesOf (now (counts .entry)) (now (incoming .entry)) o) k) ⌝ }
+// The first place of the ring, from one place on and below another, that buffer k stands at; the other place if there is none.
+fn first_place(s: &Words, from: u64, to: u64, k: u32) -> u64
+    requires { ⌜ from ≤ to ⌝ }
+    requires { ⌜ to ≤ 32 ⌝ }
+    ensures { λ r. ⌜ FoundIn (now (s .entry)) k from to r ⌝ }
 {
-    let numbers: &[u32] = counts;
-    let n = numbers[QUEUED] as usize;
-    let words: &[u32] = incoming;
-    let mut i: usize = 0;
-    while i < 32 {
-        if n <= i {
-            return false;
+    let mut p = from;
+    while p < to {
+        if line::low(s[INDEX + p as usize]) == k {
+            return p;
         }
-        if words[i] == k {
-            return true;
-        }
-        i += 1;
+        p += 1;
     }
-    false
+    to
 }
 
-// The entry of buffer k, if it holds a frame.
-pub fn find_outgoing(counts: &Counts, outgoing: &Entries, k: u32) -> Found
-    ensures { λ r. ⌜ ((i : List ℕ) → (r .present ≡ isOutgoing (queuesOf (now (counts .entry)) i (entriesOf 32 (now (outgoing .entry)))) k)
-        × (r .entry ≡ entryOf (queuesOf (now (counts .entry)) i (entriesOf 32 (now (outgoing .entry)))) k)) ⌝ }
+// Where in the line buffer k stands first; behind its end if it does not. The line is looked through as one straight part of the ring, or
+// as two where it goes past the ring's end: a remainder in the loop would cost more than all the rest.
+fn find(s: &Words, k: u32) -> u64
+    ensures { λ r. ⌜ FoundAt (now (s .entry)) k r ⌝ }
 {
-    let numbers: &[u32] = counts;
-    let n = numbers[DONE] as usize;
-    let mut i: usize = 0;
-    while i < 32 {
-        if n <= i {
-            let none = entry::no_frame();
-            return Found {
-                present: false,
-                entry: none,
-            };
-        }
-        if outgoing[5 * i] == k {
-            let entry = entry::entry_at(outgoing, i);
-            return Found {
-                present: true,
-                entry,
-            };
-        }
-        i += 1;
+    let h = s[HEAD] % 32;
+    let n = line::lined(s);
+    if h + n <= 32 {
+        return first_place(s, h, h + n, k) - h;
     }
-    let none = entry::no_frame();
-    Found {
-        present: false,
-        entry: none,
+    let p = first_place(s, h, 32, k);
+    if p < 32 {
+        return p - h;
     }
+    first_place(s, 0, h + n - 32, k) + (32 - h)
+}
+
+// Whether buffer k is in one of the queues.
+pub fn in_line(s: &Words, k: u32) -> bool
+    ensures { λ r. ⌜ r ≡ (isIncoming (streamIn (now (s .entry)) .queues) k || isOutgoing (streamIn (now (s .entry)) .queues) k) ⌝ }
+{
+    find(s, k) < line::lined(s)
+}
+
+// Which queue buffer k is in, and the frame that it holds.
+pub fn standing_of(s: &Words, k: u32) -> Standing
+    ensures { λ r. ⌜ r ≡ standingOf (streamIn (now (s .entry)) .queues) k ⌝ }
+{
+    let i = find(s, k);
+    if i < line::holding(s) {
+        return Standing::Outgoing(line::frame(s, i));
+    }
+    if i < line::lined(s) {
+        return Standing::Incoming;
+    }
+    Standing::Dequeued
 }

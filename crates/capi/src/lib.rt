@@ -1,65 +1,45 @@
 // The device for programs in C: include/tollgutter.h declares the functions that this crate exports. The caller owns the device and
-// lends it to each call, which lends its arrays on and copies its setup. A device is numbers only, so that every content of it is one
-// that the contracts speak of.
+// lends it to each call, which lends its arrays on. A device is numbers only, so that every content of it is one that the contracts speak of.
 ghost use mathlib.Core.Path.{_≡_};
 ghost use mathlib.Core.List.{List};
 ghost use Prim.Native.Nat.{ℕ};
 ghost use lib.ListN.{length};
-ghost use Rattle.buffers.specs.declared.Filled.{Filled};
-ghost use Rattle.buffers.specs.Queues.{entriesOf, timeOf};
-ghost use Rattle.stream.specs.Stream.{streamOf};
-ghost use Rattle.state.specs.State.{stateOf};
+ghost use Rattle.buffers.specs.Words.{timeOf};
+ghost use Rattle.state.specs.State.{stateIn};
 ghost use Rattle.arrival.specs.Answer.{toldOf};
+ghost use Rattle.requests.specs.Request.{requestAnswer};
 ghost use Rattle.device.specs.Film.{takenOf, takenMemory, devicePlace};
 ghost use Rattle.device.specs.Opening.{openedOf, wholeOf};
-ghost use Rattle.device.specs.Request.{requestAnswer};
 ghost use Rattle.capi.specs.Calls.{verdictTold};
 use arrival::Told;
-use buffers::Counts;
-use buffers::Entries;
-use buffers::Indices;
+use buffers::Words;
 use planes::Place;
 use state::Device;
-use state::Setup;
-use stream::Tally;
+use state::SetupWords;
 
 // An arrival, answered in numbers.
 fn arrive(
-    sheet: &[u8],
-    s: Setup,
-    tally: &mut Tally,
-    counts: &mut Counts,
-    incoming: &mut Indices,
-    outgoing: &mut Entries,
+    setup: &SetupWords,
+    video: &mut Words,
     memory: &mut [u8],
     frame: &[u8],
     seconds: u32,
     microseconds: u32,
 ) -> Told
-    ensures { λ r. ⌜ ((v : List ℕ) → (r ≡ toldOf (takenOf (now (sheet .entry)) (stateOf s v (streamOf (now (tally .entry)) (now (counts .entry)) (now (incoming .entry)) (entriesOf 32 (now (outgoing .entry))))) (length (now (memory .entry))) (length (now (frame .entry))) (timeOf seconds microseconds) .arrival))
-        × (stateOf s v (streamOf (now (tally .exit)) (now (counts .exit)) (now (incoming .exit)) (entriesOf 32 (now (outgoing .exit)))) ≡ takenOf (now (sheet .entry)) (stateOf s v (streamOf (now (tally .entry)) (now (counts .entry)) (now (incoming .entry)) (entriesOf 32 (now (outgoing .entry))))) (length (now (memory .entry))) (length (now (frame .entry))) (timeOf seconds microseconds) .state)
-        × (now (memory .exit) ≡ takenMemory (now (sheet .entry)) (stateOf s v (streamOf (now (tally .entry)) (now (counts .entry)) (now (incoming .entry)) (entriesOf 32 (now (outgoing .entry))))) (now (memory .entry)) (now (frame .entry)) (timeOf seconds microseconds))) ⌝ }
+    ensures { λ r. ⌜ ((v : List ℕ) → (r ≡ toldOf (takenOf (stateIn (now (setup .entry)) v (now (video .entry))) (length (now (memory .entry))) (length (now (frame .entry))) (timeOf seconds microseconds) .arrival))
+        × (stateIn (now (setup .entry)) v (now (video .exit)) ≡ takenOf (stateIn (now (setup .entry)) v (now (video .entry))) (length (now (memory .entry))) (length (now (frame .entry))) (timeOf seconds microseconds) .state)
+        × (now (memory .exit) ≡ takenMemory (stateIn (now (setup .entry)) v (now (video .entry))) (now (memory .entry)) (now (frame .entry)) (timeOf seconds microseconds))) ⌝ }
 {
     let time = buffers::time_of(seconds, microseconds);
-    let a = device::arrive(
-        sheet,
-        s,
-        tally,
-        counts,
-        incoming,
-        outgoing,
-        memory,
-        frame,
-        time,
-    );
+    let a = device::arrive(setup, video, memory, frame, time);
     arrival::answer_numbers(a)
 }
 
 // The verdict as a number.
-fn verdict(s: Setup, tally: &Tally) -> u32
-    ensures { λ r. ⌜ ((v c i : List ℕ) (o : List Filled) → r ≡ verdictTold (stateOf s v (streamOf (now (tally .entry)) c i o))) ⌝ }
+fn verdict(setup: &SetupWords, video: &Words) -> u32
+    ensures { λ r. ⌜ ((v : List ℕ) → r ≡ verdictTold (stateIn (now (setup .entry)) v (now (video .entry)))) ⌝ }
 {
-    let v = device::verdict_of(s, tally);
+    let v = device::verdict_of(setup, video);
     status::verdict_number(v)
 }
 
@@ -81,19 +61,14 @@ pub extern "C" fn tg_request(d: &mut Device, word: u32, argument: &mut [u8]) -> 
         × (now (d .exit) .sheet ≡ now (d .entry) .sheet)
         × (now (argument .exit) ≡ requestAnswer (now (d .entry) .sheet) (wholeOf (now (d .entry)) .state) word (now (argument .entry)) .argument) ⌝ }
 {
-    let r = device::request(
+    requests::request(
         &d.sheet,
-        d.setup,
+        &mut d.setup,
         &mut d.values,
-        &mut d.tally,
-        &mut d.counts,
-        &mut d.incoming,
-        &mut d.outgoing,
+        &mut d.video,
         word,
         argument,
-    );
-    d.setup = r.setup;
-    r.number
+    )
 }
 
 // A frame arrives, with the picture memory lent; the time comes by its bits.
@@ -105,23 +80,12 @@ pub extern "C" fn tg_arrival(
     seconds: u32,
     microseconds: u32,
 ) -> Told
-    ensures { λ r. ⌜ (r ≡ toldOf (takenOf (now (d .entry) .sheet) (wholeOf (now (d .entry)) .state) (length (now (memory .entry))) (length (now (frame .entry))) (timeOf seconds microseconds) .arrival))
-        × (wholeOf (now (d .exit)) .state ≡ takenOf (now (d .entry) .sheet) (wholeOf (now (d .entry)) .state) (length (now (memory .entry))) (length (now (frame .entry))) (timeOf seconds microseconds) .state)
+    ensures { λ r. ⌜ (r ≡ toldOf (takenOf (wholeOf (now (d .entry)) .state) (length (now (memory .entry))) (length (now (frame .entry))) (timeOf seconds microseconds) .arrival))
+        × (wholeOf (now (d .exit)) .state ≡ takenOf (wholeOf (now (d .entry)) .state) (length (now (memory .entry))) (length (now (frame .entry))) (timeOf seconds microseconds) .state)
         × (now (d .exit) .sheet ≡ now (d .entry) .sheet)
-        × (now (memory .exit) ≡ takenMemory (now (d .entry) .sheet) (wholeOf (now (d .entry)) .state) (now (memory .entry)) (now (frame .entry)) (timeOf seconds microseconds)) ⌝ }
+        × (now (memory .exit) ≡ takenMemory (wholeOf (now (d .entry)) .state) (now (memory .entry)) (now (frame .entry)) (timeOf seconds microseconds)) ⌝ }
 {
-    arrive(
-        &d.sheet,
-        d.setup,
-        &mut d.tally,
-        &mut d.counts,
-        &mut d.incoming,
-        &mut d.outgoing,
-        memory,
-        frame,
-        seconds,
-        microseconds,
-    )
+    arrive(&d.setup, &mut d.video, memory, frame, seconds, microseconds)
 }
 
 // The verdict on the film: 0 RUNNING, 1 BLANK, 2 GAPS, 3 COMPLETE.
@@ -129,7 +93,7 @@ pub extern "C" fn tg_arrival(
 pub extern "C" fn tg_verdict(d: &Device) -> u32
     ensures { λ r. ⌜ r ≡ verdictTold (wholeOf (now (d .entry)) .state) ⌝ }
 {
-    verdict(d.setup, &d.tally)
+    verdict(&d.setup, &d.video)
 }
 
 // Where a plane of a frame of so many bytes lies.
@@ -137,5 +101,5 @@ pub extern "C" fn tg_verdict(d: &Device) -> u32
 pub extern "C" fn tg_plane(d: &Device, bytes: usize, plane: u32) -> Place
     ensures { λ r. ⌜ r ≡ devicePlace (now (d .entry) .sheet) (wholeOf (now (d .entry)) .state) bytes plane ⌝ }
 {
-    device::plane_place(&d.sheet, d.setup, bytes, plane)
+    device::plane_place(&d.sheet, &d.setup, bytes, plane)
 }

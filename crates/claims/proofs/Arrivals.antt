@@ -9,16 +9,19 @@ use lib.ListN.{length}
 use Rattle.ioctl.specs.declared.refusals.Refusal.the-variants.{MemoryLength, Closed, BadSheet, MemoryTooLong, NoSuchPlane, RunFull}
 use Rattle.sheet.specs.Rules.{goodSheet}
 use Rattle.buffers.specs.declared.Time.{Time}
-use Rattle.stream.specs.Stream.{Stream}
+use Rattle.buffers.specs.Stream.{Stream, withRun}
+use Rattle.buffers.specs.declared.Next.{Next}
+use Rattle.buffers.specs.declared.Next.the-variants.{Nobody, Index}
+use Rattle.buffers.specs.Moves.{nextOf}
 use Rattle.stream.specs.Stream.{streaming}
 use Rattle.arrival.specs.declared.Arrival.{Arrival}
 use Rattle.arrival.specs.declared.Arrival.the-variants as arrivals
 use Rattle.arrival.specs.Arrivals.{Arrived}
-use Rattle.arrival.specs.Arrivals.{runLimit, answers, withRun, countedRun, placedOf, acceptedOf, arrivalOf, writtenBy}
+use Rattle.arrival.specs.Arrivals.{runLimit, answers, countedRun, placedIn, placedOf, acceptedOf, arrivalOf, writtenBy}
 use Rattle.arrival.specs.Picture.{wholePicture}
 use Rattle.state.specs.State.{State}
 use Rattle.fields.specs.Copy.{keptOf}
-use Rattle.state.specs.State.{closedState, openingState, frameSize, withStream}
+use Rattle.state.specs.State.{closedState, openingState, withStream}
 use Rattle.geometry.specs.Geometry.{lineAlignment}
 use Rattle.planes.specs.declared.Place.{Place}
 use Rattle.planes.specs.Planes.{planeRefused, planeStart, planeLength, noPlace, placeOf}
@@ -38,7 +41,11 @@ zero-by false a b e f = f
 
 accepted-number : (s : Stream) (number n : ℕ) (w : Bool) (size : ℕ) (t : Time) → arrivalNumber (acceptedOf s number n w size t .arrival) ≡ 0
 unfolding acceptedOf placedOf
-accepted-number s number n w size t = zero-by (w && leb n size) (placedOf s number n t) _ (zero-by (eqb (s .queues .queued) 0) _ _ refl refl) refl
+accepted-number s number n w size t = zero-by (w && leb n size) (placedOf s number n t) _ (placed (nextOf (s .queues .incoming))) refl
+  where
+    placed : (x : Next) → arrivalNumber (placedIn x s number n t .arrival) ≡ 0
+    placed Nobody = refl
+    placed (Index k) = refl
 
 -- the stream's own tests
 module _ (s : Stream) (lent n : ℕ) (w : Bool) (size : ℕ) (t : Time) where
@@ -69,32 +76,32 @@ written-refused arrivals.Damaged size m f h = refl
 written-refused arrivals.Dropped size m f h = refl
 written-refused (arrivals.Stored k n) size m f h = absurd (h refl)
 
-module _ (s : List ℕ) (d : State) (m f : List ℕ) (t : Time) where
-  device-checks : (arrivalNumber (takenOf s d (length m) (length f) t .arrival) ≡ firstNumber (arrivalChecks d (length m)))
-      × (arrivalNumber (takenOf s d (length m) (length f) t .arrival) ≢ 0 → takenOf s d (length m) (length f) t .state ≡ d)
+module _ (d : State) (m f : List ℕ) (t : Time) where
+  device-checks : (arrivalNumber (takenOf d (length m) (length f) t .arrival) ≡ firstNumber (arrivalChecks d (length m)))
+      × (arrivalNumber (takenOf d (length m) (length f) t .arrival) ≢ 0 → takenOf d (length m) (length f) t .state ≡ d)
   unfolding takenOf
   device-checks = go (eqb (d .ready) 0)
     where
       r : Bool → Taken
       r x = cond x (record { arrival = arrivals.Refused Closed; state = d })
-          (record { arrival = pictureArrives s d (length m) (length f) t .arrival; state = withStream d (pictureArrives s d (length m) (length f) t .stream) })
+          (record { arrival = pictureArrives d (length m) (length f) t .arrival; state = withStream d (pictureArrives d (length m) (length f) t .stream) })
 
       go : (x : Bool) → (arrivalNumber (r x .arrival)
           ≡ cond x 22 (cond (not (eqb (length m) (d .stream .length))) 14 (cond (streaming (d .stream) && leb runLimit (d .stream .run .accepted)) 75 0)))
           × (arrivalNumber (r x .arrival) ≢ 0 → r x .state ≡ d)
       go true = (refl, λ h. refl)
       go false =
-          let (a, b) = stream-checks (d .stream) (length m) (length f) (wholePicture (length f) (frameSize s d) t) (frameSize s d) t in
+          let (a, b) = stream-checks (d .stream) (length m) (length f) (wholePicture (length f) (d .size) t) (d .size) t in
           (a, λ h. ap (withStream d) (b h))
 
 pub arrival-answered : ArrivalAnswered
 unfolding takenMemory
-arrival-answered s d m f t =
-    let (a, b) = device-checks s d m f t in (
+arrival-answered d m f t =
+    let (a, b) = device-checks d m f t in (
       a,
       ap known a ∙ first-known (arrivalChecks d (length m)),
-      λ h. (b h, written-refused (takenOf s d (length m) (length f) t .arrival) (frameSize s d) m f h),
-      long-written (takenOf s d (length m) (length f) t .arrival) (frameSize s d) m f,
+      λ h. (b h, written-refused (takenOf d (length m) (length f) t .arrival) (d .size) m f h),
+      long-written (takenOf d (length m) (length f) t .arrival) (d .size) m f,
     )
 
 pub opening-answered : OpeningAnswered

@@ -3,12 +3,10 @@ use mathlib.Core.Path.{_≡_, refl, sym, ap, _∙_}
 use Prim.Native.Nat.{ℕ, _+_, _*_, _≤_}
 use native.Mathlib.Omega.{arith}
 use lib.ListN.{length}
-use Rattle.buffers.specs.Queues.{Queues}
-use Rattle.buffers.specs.Search.{any}
-use Rattle.buffers.specs.Queues.{noBuffers, isIncoming, isOutgoing}
-use Rattle.stream.specs.Stream.{Run}
+use Rattle.buffers.specs.Lists.{any}
+use Rattle.buffers.specs.Moves.{emptied, isIncoming, isOutgoing, standingOf}
 use Rattle.stream.specs.Stream.{freshStream}
-use Rattle.status.specs.Buffer.{flagsOf}
+use Rattle.status.specs.Buffer.{flagsFor}
 use Rattle.state.specs.State.{State}
 use Rattle.state.specs.State.{closedState}
 use Rattle.history.specs.Paper.{Paper, blank}
@@ -26,8 +24,8 @@ closed-run : closedState .stream .run ≡ blank 0 .run
 unfolding closedState freshStream
 closed-run = refl
 
-closed-flags : (k : ℕ) → flagsOf (closedState .stream .queues) k ≡ 0
-unfolding closedState freshStream noBuffers flagsOf isIncoming isOutgoing any
+closed-flags : (k : ℕ) → flagsFor (standingOf (closedState .stream .queues) k) ≡ 0
+unfolding closedState freshStream emptied standingOf isIncoming isOutgoing any
 closed-flags k = refl
 
 pub history-equation : HistoryEquation
@@ -50,8 +48,8 @@ one-place s m cs k = go (begins s m)
     go : Begun s m
         → (timesIn (paperAfter s m cs) k + timesOut (paperAfter s m cs) k ≤ 1)
         × (paperAfter s m cs .granted ≤ k → timesIn (paperAfter s m cs) k + timesOut (paperAfter s m cs) k ≡ 0)
-        × (flagsOf (boxAfter s m cs .state .stream .queues) k ≡ 2 * timesIn (paperAfter s m cs) k + 4 * timesOut (paperAfter s m cs) k)
+        × (flagsFor (standingOf (boxAfter s m cs .state .stream .queues) k) ≡ 2 * timesIn (paperAfter s m cs) k + 4 * timesOut (paperAfter s m cs) k)
     go (Begun.safe x) = placed (view (boxAfter s m cs)) (paperAfter s m cs) k (safe-after cs (opened s m) (blank (openingSize s)) x .kept)
     go (Begun.shut x) =
         let (d, p) = closed-at s m x cs in
-        rw p (omega arith, λ h. refl, ap (λ (z : State). flagsOf (z .stream .queues) k) d ∙ closed-flags k)
+        rw p (omega arith, λ h. refl, ap (λ (z : State). flagsFor (standingOf (z .stream .queues) k)) d ∙ closed-flags k)

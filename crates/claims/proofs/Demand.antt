@@ -14,7 +14,6 @@ use Rattle.ioctl.specs.declared.table.Call.the-variants.{Unknown, Querycap, Enu
 use Rattle.format.proofs.Bounds.{image-fits}
 use Rattle.geometry.specs.Geometry.{lineAlignment}
 use Rattle.buffers.specs.declared.Time.{Time}
-use Rattle.buffers.specs.declared.Filled.{Filled}
 use Rattle.buffers.specs.Slot.{slotOffset}
 use Rattle.buffers.proofs.Slots.{slots-apart}
 use Rattle.arrival.specs.declared.Arrival.the-variants as arrivals
@@ -26,7 +25,7 @@ use Rattle.status.specs.declared.Verdict.the-variants.{Running, Blank, Gaps, Co
 use Rattle.status.specs.Buffer.{describedOf, returnedOf}
 use Rattle.replies.specs.Replies.{bufferReply}
 use Rattle.replies.proofs.Words.{buffer-index, buffer-used, buffer-number, buffer-offset, buffer-seconds, buffer-microseconds}
-use Rattle.state.specs.State.{closedState, frameSize}
+use Rattle.state.specs.State.{closedState}
 use Rattle.device.specs.Film.{deviceVerdict}
 use Rattle.history.specs.Paper.{Pair, Paper, Event, indexOf, blank, refusedArrival, frameOf, filled, step, noted, wholes, dequeues, Calm}
 use Rattle.history.specs.Paper.Event.{put, whole, damaged, handed, begun, idle}
@@ -76,23 +75,23 @@ record Says (b : Box) (p : Paper) (x : Pair) (a : List ℕ) : Type 0 where
   microseconds : signedAt a 24 ≡ x .frame .time .microseconds
   bytes : take (length (x .frame .bytes)) (drop (wordAt a 52) (b .memory)) ≡ x .frame .bytes
 
-says : (b : Box) (p : Paper) (x : Pair) (r : List Pair) → Safe b p → p .outgoing ≡ x ∷ r → Says b p x (bufferReply (returnedOf (entry x) (p .size)))
-unfolding returnedOf describedOf frameSize
+says : (b : Box) (p : Paper) (x : Pair) (r : List Pair) → Safe b p → p .outgoing ≡ x ∷ r → Says b p x (bufferReply 1 (returnedOf (entry x) (p .size)))
+unfolding returnedOf describedOf
 says b p x r s e =
     let st : Status = returnedOf (entry x) (p .size) in
     let held : Held (p .size) (b .memory) x = subst (All (Held (p .size) (b .memory))) e (s .kept .tied .held) .0 in
     let low : x .frame .number < runLimit = subst (All (λ y. y .frame .number < runLimit)) e (s .kept .sound .low) .0 in
     let timed : Timed (x .frame .time) = subst (All (λ y. Timed (y .frame .time))) e (s .timed) .0 in
     let below : x .index < p .granted = subst (λ (l : List Pair). All (λ k. k < p .granted) (map indexOf l ++ p .incoming)) e (s .kept .sound .below) .0 in
-    let image : p .size ≤ 302764032 = omega (arith, s .kept .tied .size, image-fits (b .state .format) (lineAlignment (b .sheet))) in
+    let image : p .size ≤ 302764032 = omega (arith, s .kept .tied .size, s .sized .1, image-fits (b .state .format) (lineAlignment (b .sheet))) in
     let at : slotOffset (x .index) (p .size) < 2 ^ 32 = omega (arith, slots-apart (x .index) (p .granted) (p .size) below, s .kept .tied .fits, s .short) in
     record {
-      index = buffer-index st (omega (arith, below, s .kept .sound .few));
-      number = buffer-number st (omega (arith, low));
-      used = buffer-used st (omega (arith, held .0, image));
-      seconds = buffer-seconds st (timed .0);
-      microseconds = buffer-microseconds st (timed .1);
-      bytes = ap (λ (n : ℕ). take (length (x .frame .bytes)) (drop n (b .memory))) (buffer-offset st at) ∙ held .1;
+      index = buffer-index 1 st (omega (arith, below, s .kept .sound .few));
+      number = buffer-number 1 st (omega (arith, low));
+      used = buffer-used 1 st (omega (arith, held .0, image));
+      seconds = buffer-seconds 1 st (timed .0);
+      microseconds = buffer-microseconds 1 st (timed .1);
+      bytes = ap (λ (n : ℕ). take (length (x .frame .bytes)) (drop n (b .memory))) (buffer-offset 1 st at) ∙ held .1;
     }
 
 -- the first outgoing pair is x: an accepted DQBUF hands it over
@@ -101,10 +100,10 @@ returned-now : (b : Box) (p : Paper) (x : Pair) (r : List Pair) (v : ℕ) (c a :
 returned-now b p x r v c a s e w h =
     let told-handed : told p (request v c) (reply b (request v c)) ≡ handed =
     ap (told p (request v c)) h ∙ ap (λ (call : Asked). requestTold p call c a) w in
-    let g : reply b (request v c) ≡ answered 0 (bufferReply (returnedOf (firstOf (p .outgoing)) (p .size))) =
+    let g : reply b (request v c) ≡ answered 0 (bufferReply 1 (returnedOf (firstOf (p .outgoing)) (p .size))) =
     subst (λ (z : Event). Foretold p z (reply b (request v c))) told-handed (foretold-next b p (request v c) s) in
-    let q : answered 0 (bufferReply (returnedOf (entry x) (p .size))) ≡ answered 0 a =
-    sym (g ∙ ap (λ (l : List Pair). answered 0 (bufferReply (returnedOf (firstOf l) (p .size)))) e) ∙ h in
+    let q : answered 0 (bufferReply 1 (returnedOf (entry x) (p .size))) ≡ answered 0 a =
+    sym (g ∙ ap (λ (l : List Pair). answered 0 (bufferReply 1 (returnedOf (firstOf l) (p .size)))) e) ∙ h in
     subst (Says b p x) (cc q) (says b p x r s e)
 
 -- an accepted DQBUF found a filled buffer

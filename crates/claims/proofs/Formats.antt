@@ -16,15 +16,14 @@ use Rattle.ioctl.specs.declared.table.Call.the-variants.{TryFmt}
 use Rattle.ioctl.proofs.Numbers.{errno-positive}
 use Rattle.ioctl.specs.declared.refusals.Refusal.{Refusal}
 use Rattle.ioctl.specs.declared.refusals.Refusal.the-variants.{ArgumentLength, Closed, UnknownWord, WrongType, BuffersExist}
-use Rattle.format.specs.declared.Format.{Format}
 use Rattle.negotiation.specs.Negotiation.{negotiated, askedFormat}
 use Rattle.negotiation.specs.Answer.{formatReply}
 use Rattle.negotiation.proofs.Reply.{reply-length}
 use Rattle.state.specs.State.{State}
 use Rattle.state.specs.State.{withFormat}
 use Rattle.state.specs.Answers.{Answer, done, refused}
-use Rattle.settings.specs.Settings.{gFmtOf, sFmtOf, tryFmtOf}
-use Rattle.device.specs.Request.{callAnswer, requestAnswer}
+use Rattle.settings.specs.Settings.{gFmtOf, sFmtOf, tryFmtOf, toldFormat}
+use Rattle.requests.specs.Request.{callAnswer, requestAnswer}
 use Rattle.claims.specs.Demands.{Demand2}
 
 -- a request that is accepted got to its call, with an argument of its length
@@ -71,32 +70,32 @@ try-stays s d w a e =
     stays (eqb (d .ready) 0) Closed d a _
     (stays (eqb (requestOf w .size) 0) UnknownWord d a _
     (stays (not (eqb (length a) (requestOf w .size))) ArgumentLength d a _
-    (ap (λ (call : Call). callAnswer call s d a .state) e ∙ stays (not (eqb (wordAt a 0) 1)) WrongType d a (done d (sets a 0 (formatReply 1 s (negotiated s (askedFormat a))))) refl)))
+    (ap (λ (call : Call). callAnswer call s d a .state) e ∙ stays (not (eqb (wordAt a 0) 1)) WrongType d a (done d (sets a 0 (toldFormat s (negotiated s (askedFormat a))))) refl)))
 
 module _ (s : List ℕ) (d : State) (a : List ℕ) where
   -- an accepted S_FMT passed the test of its type, sets what was negotiated and answers it
   set-accepted : sFmtOf s d a .number ≡ 0
-      → (not (eqb (wordAt a 0) 1) ≡ false) × (sFmtOf s d a ≡ done (withFormat d (negotiated s (askedFormat a))) (sets a 0 (formatReply 1 s (negotiated s (askedFormat a)))))
+      → (not (eqb (wordAt a 0) 1) ≡ false) × (sFmtOf s d a ≡ done (withFormat s d (negotiated s (askedFormat a))) (sets a 0 (toldFormat s (negotiated s (askedFormat a)))))
   unfolding sFmtOf
   set-accepted h = go (not (eqb (wordAt a 0) 1)) refl (not (eqb (d .stream .queues .granted) 0)) h
     where
       r : Bool → Bool → Answer
-      r x y = cond x (refused WrongType d a) (cond y (refused BuffersExist d a) (done (withFormat d (negotiated s (askedFormat a))) (sets a 0 (formatReply 1 s (negotiated s (askedFormat a))))))
+      r x y = cond x (refused WrongType d a) (cond y (refused BuffersExist d a) (done (withFormat s d (negotiated s (askedFormat a))) (sets a 0 (toldFormat s (negotiated s (askedFormat a))))))
 
       go : (x : Bool) → not (eqb (wordAt a 0) 1) ≡ x → (y : Bool) → r x y .number ≡ 0
-          → (x ≡ false) × (r x y ≡ done (withFormat d (negotiated s (askedFormat a))) (sets a 0 (formatReply 1 s (negotiated s (askedFormat a)))))
+          → (x ≡ false) × (r x y ≡ done (withFormat s d (negotiated s (askedFormat a))) (sets a 0 (toldFormat s (negotiated s (askedFormat a)))))
       go true e y h = absurd (omega (arith, h))
       go false e true h = absurd (omega (arith, h))
       go false e false h = (refl, refl)
 
-  try-answers : not (eqb (wordAt a 0) 1) ≡ false → tryFmtOf s d a ≡ done d (sets a 0 (formatReply 1 s (negotiated s (askedFormat a))))
+  try-answers : not (eqb (wordAt a 0) 1) ≡ false → tryFmtOf s d a ≡ done d (sets a 0 (toldFormat s (negotiated s (askedFormat a))))
   unfolding tryFmtOf
   try-answers h = rw h
 
   -- an accepted G_FMT answers the format set, all over its argument
-  get-answers : gFmtOf s d a .number ≡ 0 → length a ≡ 204 → gFmtOf s d a .argument ≡ formatReply 1 s (d .format)
+  get-answers : gFmtOf d a .number ≡ 0 → length a ≡ 204 → gFmtOf d a .argument ≡ formatReply 1 (d .format) (d .line) (d .size)
   unfolding gFmtOf
-  get-answers h l = rw (passed (not (eqb (wordAt a 0) 1)) WrongType d a _ h) (sets-all (formatReply 1 s (d .format)) a (l ∙ sym (reply-length 1 s (d .format))))
+  get-answers h l = rw (passed (not (eqb (wordAt a 0) 1)) WrongType d a _ h) (sets-all (formatReply 1 (d .format) (d .line) (d .size)) a (l ∙ sym (reply-length 1 (d .format) (d .line) (d .size))))
 
 pub demand-2 : Demand2
 demand-2 s d t u g a b et eu eg =
@@ -109,13 +108,13 @@ demand-2 s d t u g a b et eu eg =
     long h = reached s d u a h .long ∙ ap argumentSize eu
 
     set-does : (h : requestAnswer s d u a .number ≡ 0)
-        → (not (eqb (wordAt a 0) 1) ≡ false) × (requestAnswer s d u a ≡ done (withFormat d (negotiated s (askedFormat a))) (sets a 0 (formatReply 1 s (negotiated s (askedFormat a)))))
+        → (not (eqb (wordAt a 0) 1) ≡ false) × (requestAnswer s d u a ≡ done (withFormat s d (negotiated s (askedFormat a))) (sets a 0 (toldFormat s (negotiated s (askedFormat a)))))
     set-does h = let (x, y) = set-accepted s d a (ap (λ (r : Answer). r .number) (sym (set-is h)) ∙ h) in (x, set-is h ∙ y)
 
     tried : requestAnswer s d u a .number ≡ 0 → (requestAnswer s d t a .number ≡ 0) × (requestAnswer s d t a .argument ≡ requestAnswer s d u a .argument)
     tried h =
         let (x, y) = set-does h in
-        let z : requestAnswer s d t a ≡ done d (sets a 0 (formatReply 1 s (negotiated s (askedFormat a)))) =
+        let z : requestAnswer s d t a ≡ done d (sets a 0 (toldFormat s (negotiated s (askedFormat a)))) =
         reaches s d t a TryFmt et refl (reached s d u a h .ready) (long h) ∙ try-answers s d a x in
         (ap (λ (r : Answer). r .number) z, ap (λ (r : Answer). r .argument) z ∙ sym (ap (λ (r : Answer). r .argument) y))
 
@@ -125,8 +124,8 @@ demand-2 s d t u g a b et eu eg =
         let (x, y) = set-does h in
         let e : State = requestAnswer s d u a .state in
         let q : Reached s e g b = reached s e g b k in
-        let is : requestAnswer s e g b ≡ gFmtOf s e b = q .is ∙ ap (λ (call : Call). callAnswer call s e b) eg in
+        let is : requestAnswer s e g b ≡ gFmtOf e b = q .is ∙ ap (λ (call : Call). callAnswer call s e b) eg in
         ap (λ (r : Answer). r .argument) is
         ∙ get-answers s e b (ap (λ (r : Answer). r .number) (sym is) ∙ k) (q .long ∙ ap argumentSize eg)
-        ∙ ap (λ (r : Answer). formatReply 1 s (r .state .format)) y
-        ∙ sym (ap (λ (r : Answer). r .argument) y ∙ sets-all (formatReply 1 s (negotiated s (askedFormat a))) a (long h ∙ sym (reply-length 1 s (negotiated s (askedFormat a)))))
+        ∙ ap (λ (r : Answer). formatReply 1 (r .state .format) (r .state .line) (r .state .size)) y
+        ∙ sym (ap (λ (r : Answer). r .argument) y ∙ sets-all (toldFormat s (negotiated s (askedFormat a))) a (long h ∙ sym (reply-length 1 (negotiated s (askedFormat a)) _ _)))

@@ -11,7 +11,7 @@ use Rattle.wire.specs.Words.{wordAt}
 use Rattle.ioctl.specs.Refusal.{errnoOf}
 use Rattle.ioctl.specs.Table.{requestOf}
 use Rattle.ioctl.specs.declared.refusals.Refusal.{Refusal}
-use Rattle.ioctl.specs.declared.refusals.Refusal.the-variants.{ArgumentLength, Closed, UnknownWord, WrongType, WrongMemory, NoSuchIndex, NoSuchControl, BuffersExist}
+use Rattle.ioctl.specs.declared.refusals.Refusal.the-variants.{ArgumentLength, Closed, UnknownWord, WrongType, NoSuchIndex, NoSuchControl, BuffersExist}
 use Rattle.ioctl.specs.declared.table.Call.{Call}
 use Rattle.ioctl.specs.declared.table.Call.the-variants.{Unknown, Querycap, EnumFmt, GFmt, SFmt, TryFmt, Reqbufs, Querybuf, Qbuf, Dqbuf, Streamon, Streamoff, GCtrl, SCtrl, Queryctrl, Cropcap, GCrop, SCrop}
 use Rattle.ioctl.proofs.Numbers.{errno-known}
@@ -22,23 +22,17 @@ use Rattle.control.specs.declared.Reading.{Reading}
 use Rattle.control.specs.declared.Reading.the-variants as reads
 use Rattle.control.specs.declared.Setting.{Setting}
 use Rattle.control.specs.declared.Setting.the-variants as settings
-use Rattle.stream.specs.Calls.{Step}
-use Rattle.stream.specs.Calls.{requestOf as bufferRequest, enqueueOf, dequeueOf, startOf}
-use Rattle.stream.specs.Numbers.{replyNumber}
-use Rattle.status.specs.declared.Queried.{Queried}
-use Rattle.status.specs.declared.Queried.the-variants as queries
-use Rattle.status.specs.Buffer.{statusOf, queryOf, returnedOf}
-use Rattle.buffers.specs.Queues.{oldestOutgoing}
 use Rattle.negotiation.specs.Negotiation.{negotiated, askedFormat}
 use Rattle.negotiation.specs.Answer.{formatReply}
-use Rattle.replies.specs.Replies.{capabilityReply, descriptionReply, buffersReply, bufferReply, controlReply, valueReply, cropReply, cropCapabilityReply}
+use Rattle.replies.specs.Replies.{capabilityReply, descriptionReply, controlReply, valueReply, cropReply, cropCapabilityReply}
 use Rattle.state.specs.State.{State}
-use Rattle.state.specs.State.{frameSize, withFormat, withValues, withStream}
-use Rattle.state.specs.Answers.{Answer, done, refusedWith, refused}
-use Rattle.settings.specs.Settings.{querycapOf, enumFmtOf, gFmtOf, sFmtOf, tryFmtOf, cropcapOf, gCropOf, sCropOf}
+use Rattle.state.specs.State.{withFormat, withValues, withStream}
+use Rattle.state.specs.Answers.{Answer, answer, done, refused}
+use Rattle.settings.specs.Settings.{querycapOf, enumFmtOf, gFmtOf, toldFormat, sFmtOf, tryFmtOf, cropcapOf, gCropOf, sCropOf}
 use Rattle.controls.specs.Controls.{queryctrlOf, gCtrlOf, sCtrlOf, readAs, setAs}
-use Rattle.streaming.specs.Streaming.{stepped, queriedAs, reqbufsOf, querybufOf, qbufOf, dqbufOf, streamonOf, streamoffOf}
-use Rattle.device.specs.Request.{callAnswer, requestAnswer}
+use Rattle.streaming.specs.Streaming.{StreamAnswer}
+use Rattle.streaming.proofs.Refused.{HonestStream, reqbufs-honest, querybuf-honest, qbuf-honest, dqbuf-honest, streamon-honest, streamoff-honest}
+use Rattle.requests.specs.Request.{byStream, callAnswer, requestAnswer}
 use Rattle.claims.specs.Refusals.{Check, firstNumber, requestChecks}
 use Rattle.claims.specs.Demands.{known, RequestAnswered}
 use Rattle.claims.proofs.Table.{request-table}
@@ -49,7 +43,7 @@ pub record Honest (d : State) (a : List ℕ) (r : Answer) : Type 0 where
   pub long : length (r .argument) ≡ length a
 
 module _ (d : State) (a : List ℕ) where
-  honest-refused : (n : ℕ) → Honest d a (refusedWith n d a)
+  honest-refused : (n : ℕ) → Honest d a (answer n d a)
   honest-refused n = record { unchanged = λ h. (refl, refl); long = refl }
 
   -- done: a reply is stored over the argument, or the argument stays
@@ -63,19 +57,9 @@ module _ (d : State) (a : List ℕ) where
   honest-check true why r h = honest-refused (errnoOf why)
   honest-check false why r h = h
 
-  honest-two : (x y : Bool) (r : Answer) → Honest d a r → Honest d a (cond x (refused WrongType d a) (cond y (refused WrongMemory d a) r))
-  honest-two x y r h = honest-check x WrongType (cond y (refused WrongMemory d a) r) (honest-check y WrongMemory r h)
-
-  honest-step : (t : Step) (b : List ℕ) → length b ≡ length a → Honest d a (stepped d a t b)
-  honest-step t b l = go (eqb (replyNumber (t .reply)) 0)
-    where
-      go : (x : Bool) → Honest d a (cond x (done (withStream d (t .stream)) b) (refusedWith (replyNumber (t .reply)) d a))
-      go true = record { unchanged = λ h. absurd (h refl); long = l }
-      go false = honest-refused (replyNumber (t .reply))
-
-  honest-queried : (x : Queried) → Honest d a (queriedAs x d a)
-  honest-queried (queries.Buffer b) = honest-done d (bufferReply b)
-  honest-queried (queries.Refused why) = honest-refused (errnoOf why)
+  -- as honest as the stream is
+  honest-stream : (r : StreamAnswer) → HonestStream (d .stream) a r → Honest d a (byStream d r)
+  honest-stream r h = record { unchanged = λ n. (ap (withStream d) (h .unchanged n .0), h .unchanged n .1); long = h .long }
 
   honest-read : (x : Reading) (id : ℕ) → Honest d a (readAs x id d a)
   honest-read (reads.Value v) id = honest-done d (valueReply id v)
@@ -87,22 +71,20 @@ module _ (d : State) (a : List ℕ) where
   honest-set (settings.Refused why) id = honest-refused (errnoOf why)
 
   honest-call : (s : List ℕ) (call : Call) → Honest d a (callAnswer call s d a)
-  unfolding querycapOf enumFmtOf gFmtOf sFmtOf tryFmtOf cropcapOf gCropOf sCropOf reqbufsOf querybufOf qbufOf dqbufOf streamonOf streamoffOf queryctrlOf gCtrlOf sCtrlOf
+  unfolding querycapOf enumFmtOf gFmtOf sFmtOf tryFmtOf cropcapOf gCropOf sCropOf queryctrlOf gCtrlOf sCtrlOf
   honest-call s Unknown = honest-refused (errnoOf UnknownWord)
   honest-call s Querycap = honest-done d (capabilityReply s)
   honest-call s EnumFmt = honest-check (not (eqb (wordAt a 4) 1)) WrongType _ (honest-check (leb (formatCount s) (wordAt a 0)) NoSuchIndex _ (honest-done d (descriptionReply s (wordAt a 0))))
-  honest-call s GFmt = honest-check (not (eqb (wordAt a 0) 1)) WrongType _ (honest-done d (formatReply 1 s (d .format)))
+  honest-call s GFmt = honest-check (not (eqb (wordAt a 0) 1)) WrongType _ (honest-done d (formatReply 1 (d .format) (d .line) (d .size)))
   honest-call s SFmt = honest-check (not (eqb (wordAt a 0) 1)) WrongType _ (honest-check (not (eqb (d .stream .queues .granted) 0)) BuffersExist _
-      (honest-done (withFormat d (negotiated s (askedFormat a))) (formatReply 1 s (negotiated s (askedFormat a)))))
-  honest-call s TryFmt = honest-check (not (eqb (wordAt a 0) 1)) WrongType _ (honest-done d (formatReply 1 s (negotiated s (askedFormat a))))
-  honest-call s Reqbufs =
-      let t : Step = bufferRequest (d .stream) (wordAt a 0) (frameSize s d) in
-      honest-two (not (eqb (wordAt a 4) 1)) (not (eqb (wordAt a 8) 1)) _ (honest-step t _ (length-sets a 0 (buffersReply (t .stream .queues .granted))))
-  honest-call s Querybuf = honest-check (not (eqb (wordAt a 4) 1)) WrongType _ (honest-queried (queryOf (d .stream) (wordAt a 0) (frameSize s d)))
-  honest-call s Qbuf = honest-two (not (eqb (wordAt a 4) 1)) (not (eqb (wordAt a 48) 1)) _ (honest-step (enqueueOf (d .stream) (wordAt a 0)) _ (length-sets a 0 (bufferReply (statusOf (enqueueOf (d .stream) (wordAt a 0) .stream) (wordAt a 0) (frameSize s d)))))
-  honest-call s Dqbuf = honest-two (not (eqb (wordAt a 4) 1)) (not (eqb (wordAt a 48) 1)) _ (honest-step (dequeueOf (d .stream)) _ (length-sets a 0 (bufferReply (returnedOf (oldestOutgoing (d .stream .queues)) (frameSize s d)))))
-  honest-call s Streamon = honest-check (not (eqb (wordAt a 0) 1)) WrongType _ (honest-step (startOf (d .stream)) a refl)
-  honest-call s Streamoff = honest-check (not (eqb (wordAt a 0) 1)) WrongType _ (honest-quiet _)
+      (honest-done (withFormat s d (negotiated s (askedFormat a))) (toldFormat s (negotiated s (askedFormat a)))))
+  honest-call s TryFmt = honest-check (not (eqb (wordAt a 0) 1)) WrongType _ (honest-done d (toldFormat s (negotiated s (askedFormat a))))
+  honest-call s Reqbufs = honest-check (not (eqb (wordAt a 4) 1)) WrongType _ (honest-stream _ (reqbufs-honest (d .stream) a 1 (d .size)))
+  honest-call s Querybuf = honest-check (not (eqb (wordAt a 4) 1)) WrongType _ (honest-stream _ (querybuf-honest (d .stream) a 1 (d .size)))
+  honest-call s Qbuf = honest-check (not (eqb (wordAt a 4) 1)) WrongType _ (honest-stream _ (qbuf-honest (d .stream) a 1 (d .size)))
+  honest-call s Dqbuf = honest-check (not (eqb (wordAt a 4) 1)) WrongType _ (honest-stream _ (dqbuf-honest (d .stream) a 1 (d .size)))
+  honest-call s Streamon = honest-check (not (eqb (wordAt a 0) 1)) WrongType _ (honest-stream _ (streamon-honest (d .stream) a 1 (d .size)))
+  honest-call s Streamoff = honest-check (not (eqb (wordAt a 0) 1)) WrongType _ (honest-stream _ (streamoff-honest (d .stream) a 1 (d .size)))
   honest-call s GCtrl = honest-read (reading s (d .values) (wordAt a 0)) (wordAt a 0)
   honest-call s SCtrl = honest-set (settingOf s (wordAt a 0) (wordAt a 4)) (wordAt a 0)
   honest-call s Queryctrl = honest-check (leb (present s) (queriedPlace s (wordAt a 0))) NoSuchControl _ (honest-done d (controlReply s (queriedPlace s (wordAt a 0))))

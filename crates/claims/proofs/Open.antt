@@ -17,7 +17,7 @@ use Rattle.arrival.specs.declared.Arrival.the-variants as arrivals
 use Rattle.arrival.specs.Arrivals.{Arrived}
 use Rattle.arrival.specs.Arrivals.{writtenBy}
 use Rattle.arrival.specs.Picture.{inSecond, wholePicture}
-use Rattle.state.specs.State.{frameSize}
+use Rattle.state.specs.State.{withStream}
 use Rattle.device.specs.Film.{Taken}
 use Rattle.device.specs.Film.{pictureArrives, takenOf, takenMemory}
 use Rattle.history.specs.Calls.{World}
@@ -32,7 +32,7 @@ use Rattle.claims.specs.Calls.{Call, Box, timeOf, asks, lent, arrives, r
 use Rattle.claims.specs.Calls.Call.{request, arrival}
 use Rattle.claims.specs.Calls.Reply.{taken}
 use Rattle.claims.specs.Words.{arrivalTold, told}
-use Rattle.claims.proofs.Steps.{view, Timed, Safe, Foretold, Timely, Does, does-request}
+use Rattle.claims.proofs.Steps.{view, Timed, Sized, Safe, Foretold, Timely, Does, does-request}
 
 -- What a call does.
 pub record Goes (b : Box) (p : Paper) (c : Call) : Type 0 where
@@ -43,6 +43,7 @@ pub record Goes (b : Box) (p : Paper) (c : Call) : Type 0 where
   pub timely : Timely event
   pub ready : eqb (next b c .state .ready) 0 ≡ false
   pub tied : Tied (view (next b c)) (step p event)
+  pub sized : Sized (next b c .sheet) (next b c .state)
   pub long : length (next b c .memory) ≡ length (b .memory)
 
 -- ---- a frame arrives
@@ -70,16 +71,10 @@ timed-of x y = (signed-fits (x % 2 ^ 32) (omega arith), signed-fits (y % 2 ^ 32)
 
 module _ (b : Box) (p : Paper) (safe : Safe b p) (f : List ℕ) (x y : ℕ) (other : List ℕ) where
   -- an open device hands the picture to its stream
-  open-taken : (l : ℕ) → takenOf (b .sheet) (b .state) l (length f) (timeOf x y)
+  open-taken : (l : ℕ) → takenOf (b .state) l (length f) (timeOf x y)
       ≡ record {
-        arrival = pictureArrives (b .sheet) (b .state) l (length f) (timeOf x y) .arrival;
-        state = record {
-          ready = b .state .ready;
-          format = b .state .format;
-          crop = b .state .crop;
-          values = b .state .values;
-          stream = pictureArrives (b .sheet) (b .state) l (length f) (timeOf x y) .stream;
-        };
+        arrival = pictureArrives (b .state) l (length f) (timeOf x y) .arrival;
+        state = withStream (b .state) (pictureArrives (b .state) l (length f) (timeOf x y) .stream);
       }
   unfolding takenOf
   open-taken l = rw (safe .ready)
@@ -88,20 +83,20 @@ module _ (b : Box) (p : Paper) (safe : Safe b p) (f : List ℕ) (x y : ℕ) (oth
   same-view : (v : Bool)
       → view (record {
         sheet = b .sheet;
-        state = takenOf (b .sheet) (b .state) (length (cond v (b .memory) other)) (length f) (timeOf x y) .state;
-        memory = cond v (takenMemory (b .sheet) (b .state) (b .memory) f (timeOf x y)) (b .memory);
+        state = takenOf (b .state) (length (cond v (b .memory) other)) (length f) (timeOf x y) .state;
+        memory = cond v (takenMemory (b .state) (b .memory) f (timeOf x y)) (b .memory);
       })
       ≡ record {
-        stream = pictureArrives (b .sheet) (b .state) (length (cond v (b .memory) other)) (length f) (timeOf x y) .stream;
-        size = frameSize (b .sheet) (b .state);
-        memory = cond v (writtenBy (pictureArrives (b .sheet) (b .state) (length (cond v (b .memory) other)) (length f) (timeOf x y) .arrival) (frameSize (b .sheet) (b .state)) (b .memory) f) (b .memory);
+        stream = pictureArrives (b .state) (length (cond v (b .memory) other)) (length f) (timeOf x y) .stream;
+        size = b .state .size;
+        memory = cond v (writtenBy (pictureArrives (b .state) (length (cond v (b .memory) other)) (length f) (timeOf x y) .arrival) (b .state .size) (b .memory) f) (b .memory);
       }
-  unfolding takenMemory frameSize
+  unfolding takenMemory
   same-view true = rw (open-taken (length (b .memory)))
   same-view false = rw (open-taken (length other))
 
   tells-same : cond (p .running) (arrivalTold p f x y) idle
-      ≡ cond (p .running) (cond (wholePicture (length f) (frameSize (b .sheet) (b .state)) (timeOf x y) && leb (length f) (p .size)) (whole f (timeOf x y)) damaged) idle
+      ≡ cond (p .running) (cond (wholePicture (length f) (b .state .size) (timeOf x y) && leb (length f) (p .size)) (whole f (timeOf x y)) damaged) idle
   tells-same =
       ap (λ (v : Bool). cond (p .running) (cond v (whole f (timeOf x y)) damaged) idle)
       (sym (whole-short (length f) (p .size) (timeOf x y)) ∙ ap (λ (z : ℕ). wholePicture (length f) z (timeOf x y) && leb (length f) (p .size)) (sym (safe .kept .tied .size)))
@@ -124,10 +119,10 @@ module _ (b : Box) (p : Paper) (safe : Safe b p) (f : List ℕ) (x y : ℕ) (oth
 
   goes-arrival : Goes b p (arrival f x y other)
   goes-arrival =
-      let fl : Bool = wholePicture (length f) (frameSize (b .sheet) (b .state)) (timeOf x y) in
+      let fl : Bool = wholePicture (length f) (b .state .size) (timeOf x y) in
       let v : Bool = eqb (length other) (length (b .memory)) in
       let h = follows (view b) p (comes f (timeOf x y) fl other) (safe .kept .tied) (safe .kept .sound) in
-      let r : Arrived = pictureArrives (b .sheet) (b .state) (length (lent b other)) (length f) (timeOf x y) in
+      let r : Arrived = pictureArrives (b .state) (length (lent b other)) (length f) (timeOf x y) in
       let same : arrives b f x y other .arrival ≡ r .arrival = ap (λ (z : Taken). z .arrival) (open-taken (length (lent b other))) in
       record {
         event = h .event;
@@ -139,11 +134,12 @@ module _ (b : Box) (p : Paper) (safe : Safe b p) (f : List ℕ) (x y : ℕ) (oth
         timely = subst Timely (h .tells) (timely-told (refusedArrival (r .arrival)) (p .running) (fl && leb (length f) (p .size)));
         ready = ap (λ (z : Taken). eqb (z .state .ready) 0) (open-taken (length (lent b other))) ∙ safe .ready;
         tied = subst (λ (w : World). Tied w (step p (h .event))) (sym (same-view v)) (h .tied);
+        sized = subst (λ (z : Taken). Sized (b .sheet) (z .state)) (sym (open-taken (length (lent b other)))) (safe .sized);
         long = ap (λ (w : World). length (w .memory)) (same-view v) ∙ go v;
       }
     where
-      go : (v : Bool) → length (cond v (writtenBy (pictureArrives (b .sheet) (b .state) (length (cond v (b .memory) other)) (length f) (timeOf x y) .arrival) (frameSize (b .sheet) (b .state)) (b .memory) f) (b .memory)) ≡ length (b .memory)
-      go true = long-written (pictureArrives (b .sheet) (b .state) (length (b .memory)) (length f) (timeOf x y) .arrival) (frameSize (b .sheet) (b .state)) (b .memory) f
+      go : (v : Bool) → length (cond v (writtenBy (pictureArrives (b .state) (length (cond v (b .memory) other)) (length f) (timeOf x y) .arrival) (b .state .size) (b .memory) f) (b .memory)) ≡ length (b .memory)
+      go true = long-written (pictureArrives (b .state) (length (b .memory)) (length f) (timeOf x y) .arrival) (b .state .size) (b .memory) f
       go false = refl
 
 -- ---- any call
@@ -159,6 +155,7 @@ goes b p (request w a) safe =
       timely = d .timely;
       ready = d .ready;
       tied = d .tied;
+      sized = d .sized;
       long = refl;
     }
 goes b p (arrival f x y other) safe = goes-arrival b p safe f x y other
@@ -195,5 +192,6 @@ safe-next b p c safe =
       ready = g .ready;
       kept = record { tied = g .tied; sound = sound-step p (g .event) (safe .kept .sound) (g .fits) };
       short = omega (arith, g .long, safe .short);
+      sized = g .sized;
       timed = timed-step p (g .event) (safe .timed) (g .timely);
     })

@@ -11,17 +11,15 @@ use Rattle.ioctl.specs.declared.refusals.Refusal.{Refusal}
 use Rattle.ioctl.specs.declared.refusals.Refusal.the-variants.{BadSheet, MemoryTooLong}
 use Rattle.fields.specs.Copy.{keptOf}
 use Rattle.fields.proofs.Copies.{kept-code}
-use Rattle.geometry.specs.declared.Range.{Range}
 use Rattle.geometry.proofs.Copies.{kept-widths, kept-heights, kept-alignment}
 use Rattle.sheet.specs.Rules.{goodSheet}
 use Rattle.sheet.proofs.Good.{fits-copy}
-use Rattle.format.specs.declared.Format.{Format}
 use Rattle.negotiation.specs.Negotiation.{openingFormat}
 use Rattle.state.specs.State.{State}
-use Rattle.state.specs.State.{closedState, openingState, frameSize}
+use Rattle.state.specs.State.{closedState, openingState}
 use Rattle.device.specs.Opening.{Opened}
 use Rattle.device.specs.Opening.{longestMemory, closedBy, openedOf}
-use Rattle.device.specs.Request.{requestAnswer}
+use Rattle.requests.specs.Request.{requestAnswer}
 use Rattle.device.specs.Film.{takenOf}
 use Rattle.history.specs.Paper.{Paper, blank, step, noted}
 use Rattle.history.specs.Paper.Event.{idle}
@@ -70,8 +68,8 @@ shut-after cs b p h = keeps-after reply next told Same same cs b p (refl, refl)
 -- ---- opening
 
 -- the copy has the sheet's first format, greatest size and alignment
-opening-size : (s : List ℕ) (n : ℕ) → goodSheet s ≡ true → frameSize (keptOf s) (openingState (keptOf s) n) ≡ openingSize s
-unfolding frameSize openingState openingFormat
+opening-size : (s : List ℕ) (n : ℕ) → goodSheet s ≡ true → openingState (keptOf s) n .size ≡ openingSize s
+unfolding openingState openingFormat
 opening-size s n good =
     let fits : length s ≤ 2688 = omega (arith, fits-copy s good) in
     rw (kept-widths s fits, kept-heights s fits, kept-alignment s fits, kept-code s fits 0)
@@ -108,13 +106,14 @@ closed-shut b e = ap (λ (d : State). eqb (d .ready) 0) e
 good-safe : (s m : List ℕ) → goodSheet s ≡ true → ltb longestMemory (length m) ≡ false → Safe (boxOf (goodOpening s (length m)) m) (blank (openingSize s))
 unfolding openingState
 good-safe s m good short =
-    let z : ℕ = frameSize (keptOf s) (openingState (keptOf s) (length m)) in
+    let z : ℕ = openingState (keptOf s) (length m) .size in
     subst (λ (n : ℕ). Safe (boxOf (goodOpening s (length m)) m) (blank n)) (opening-size s (length m) good)
     (record {
       ready = refl;
       kept = record { tied = tied-opened z m; sound = sound-blank z };
       short = ltb-false longestMemory (length m) short;
       timed = tt;
+      sized = (refl, refl);
     })
 
 pub begins : (s m : List ℕ) → Begun s m

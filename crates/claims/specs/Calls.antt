@@ -11,7 +11,7 @@ use Rattle.state.specs.State.{State}
 use Rattle.state.specs.Answers.{Answer}
 use Rattle.device.specs.Film.{Taken}
 use Rattle.device.specs.Opening.{openedOf}
-use Rattle.device.specs.Request.{requestAnswer}
+use Rattle.requests.specs.Request.{requestAnswer}
 use Rattle.device.specs.Film.{takenOf, takenMemory}
 use Rattle.history.specs.Calls.{leaves}
 
@@ -50,7 +50,7 @@ lent b other = cond (eqb (length other) (length (b .memory))) (b .memory) other
 
 -- what an arrival answers and leaves
 abbrev pub arrives : Box → List ℕ → ℕ → ℕ → List ℕ → Taken
-arrives b f x y other = takenOf (b .sheet) (b .state) (length (lent b other)) (length f) (timeOf x y)
+arrives b f x y other = takenOf (b .state) (length (lent b other)) (length f) (timeOf x y)
 
 -- what a call gives back
 abbrev pub reply : Box → Call → Reply
@@ -64,7 +64,7 @@ next b (arrival f x y other) =
     record {
       sheet = b .sheet;
       state = arrives b f x y other .state;
-      memory = cond (eqb (length other) (length (b .memory))) (takenMemory (b .sheet) (b .state) (b .memory) f (timeOf x y)) (b .memory);
+      memory = cond (eqb (length other) (length (b .memory))) (takenMemory (b .state) (b .memory) f (timeOf x y)) (b .memory);
     }
 
 -- what a list of calls leaves

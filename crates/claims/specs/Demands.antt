@@ -8,7 +8,6 @@ use lib.Dec.{eqb, leb, ltb}
 use lib.ListN.{length}
 use Rattle.ioctl.specs.Refusal.{errnoOf, numbered}
 use Rattle.ioctl.specs.Table.{requestOf}
-use Rattle.ioctl.specs.declared.refusals.Refusal.{Refusal}
 use Rattle.ioctl.specs.declared.refusals.Refusal.the-variants.{MemoryLength, Closed, BadSheet, MemoryTooLong, NoSuchPlane, RunFull}
 use Rattle.ioctl.specs.declared.table.Call.the-variants.{SFmt, TryFmt, GFmt}
 use Rattle.geometry.specs.Geometry.{lineAlignment}
@@ -19,13 +18,12 @@ use Rattle.stream.specs.Stream.{streaming}
 use Rattle.arrival.specs.declared.Arrival.{Arrival}
 use Rattle.arrival.specs.declared.Arrival.the-variants as arrivals
 use Rattle.arrival.specs.Arrivals.{runLimit}
-use Rattle.status.specs.Buffer.{flagsOf}
+use Rattle.buffers.specs.Moves.{standingOf}
+use Rattle.status.specs.Buffer.{flagsFor}
 use Rattle.status.specs.declared.Verdict.the-variants.{Running, Blank, Gaps, Complete}
 use Rattle.state.specs.State.{State}
-use Rattle.device.specs.Opening.{Opened}
-use Rattle.device.specs.Film.{Taken}
 use Rattle.device.specs.Opening.{longestMemory, openedOf}
-use Rattle.device.specs.Request.{requestAnswer}
+use Rattle.requests.specs.Request.{requestAnswer}
 use Rattle.device.specs.Film.{takenOf, takenMemory, deviceVerdict, devicePlace}
 use Rattle.history.specs.Claims.{_⇔_, timesIn, timesOut, AllHandedOver}
 use Rattle.claims.specs.Calls.{Call}
@@ -61,13 +59,13 @@ arrivalChecks d lent =
     check (eqb (d .ready) 0) Closed ∷ check (not (eqb lent (d .stream .length))) MemoryLength
     ∷ check (streaming (d .stream) && leb runLimit (d .stream .run .accepted)) RunFull ∷ []
 
--- an arrival on any sheet and state, with any memory, frame and time: the same, for state and memory
+-- an arrival on any state, with any memory, frame and time: the same, for state and memory
 abbrev pub ArrivalAnswered : Type 0
-ArrivalAnswered = (s : List ℕ) (d : State) (m f : List ℕ) (t : Time)
-    → (arrivalNumber (takenOf s d (length m) (length f) t .arrival) ≡ firstNumber (arrivalChecks d (length m)))
-    × (known (arrivalNumber (takenOf s d (length m) (length f) t .arrival)) ≡ true)
-    × (arrivalNumber (takenOf s d (length m) (length f) t .arrival) ≢ 0 → (takenOf s d (length m) (length f) t .state ≡ d) × (takenMemory s d m f t ≡ m))
-    × (length (takenMemory s d m f t) ≡ length m)
+ArrivalAnswered = (d : State) (m f : List ℕ) (t : Time)
+    → (arrivalNumber (takenOf d (length m) (length f) t .arrival) ≡ firstNumber (arrivalChecks d (length m)))
+    × (known (arrivalNumber (takenOf d (length m) (length f) t .arrival)) ≡ true)
+    × (arrivalNumber (takenOf d (length m) (length f) t .arrival) ≢ 0 → (takenOf d (length m) (length f) t .state ≡ d) × (takenMemory d m f t ≡ m))
+    × (length (takenMemory d m f t) ≡ length m)
 
 -- an opening with any bytes and length: 22 exactly for a bad sheet or a memory that is too long, and the device is then closed
 abbrev pub OpeningAnswered : Type 0
@@ -112,7 +110,7 @@ abbrev pub OnePlace : Type 0
 OnePlace = (s m : List ℕ) (cs : List Call) (k : ℕ)
     → (timesIn (paperAfter s m cs) k + timesOut (paperAfter s m cs) k ≤ 1)
     × (paperAfter s m cs .granted ≤ k → timesIn (paperAfter s m cs) k + timesOut (paperAfter s m cs) k ≡ 0)
-    × (flagsOf (boxAfter s m cs .state .stream .queues) k ≡ 2 * timesIn (paperAfter s m cs) k + 4 * timesOut (paperAfter s m cs) k)
+    × (flagsFor (standingOf (boxAfter s m cs .state .stream .queues) k) ≡ 2 * timesIn (paperAfter s m cs) k + 4 * timesOut (paperAfter s m cs) k)
 
 -- THE VERDICTS: RUNNING in a run; else BLANK if none of the last run's arrivals was handed over (or there was no run, or the device is
 -- closed), GAPS if some were and not all, COMPLETE if all were

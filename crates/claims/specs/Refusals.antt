@@ -17,7 +17,7 @@ use Rattle.ioctl.specs.declared.table.Call.the-variants.{Unknown, Querycap, Enu
 use Rattle.fields.specs.Fields.{formatCount, controlFields}
 use Rattle.fields.specs.declared.Control.{Control}
 use Rattle.control.specs.Find.{present, placeOf, queriedPlace}
-use Rattle.buffers.specs.Queues.{isIncoming, isOutgoing}
+use Rattle.buffers.specs.Moves.{isIncoming, isOutgoing}
 use Rattle.stream.specs.Stream.{streaming}
 use Rattle.state.specs.State.{State}
 
@@ -63,7 +63,7 @@ checks Qbuf s d a =
     wrongType a 4 ∷ wrongMemory a 48 ∷ check (leb (d .stream .queues .granted) (wordAt a 0)) NoSuchIndex
     ∷ check (isIncoming (d .stream .queues) (wordAt a 0) || isOutgoing (d .stream .queues) (wordAt a 0)) NotDequeued ∷ []
 checks Dqbuf s d a =
-    wrongType a 4 ∷ wrongMemory a 48 ∷ check (eqb (d .stream .queues .granted) 0) NoBuffers ∷ check (eqb (d .stream .queues .done) 0) NothingOutgoing ∷ []
+    wrongType a 4 ∷ wrongMemory a 48 ∷ check (eqb (d .stream .queues .granted) 0) NoBuffers ∷ check (eqb (length (d .stream .queues .outgoing)) 0) NothingOutgoing ∷ []
 checks Streamon s d a = wrongType a 0 ∷ check (eqb (d .stream .queues .granted) 0) NoBuffers ∷ []
 checks Streamoff s d a = wrongType a 0 ∷ []
 checks GCtrl s d a =

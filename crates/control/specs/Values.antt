@@ -55,9 +55,3 @@ settingAt c k w =
 -- what setting the control with an id does
 unfoldable pub settingOf : List ℕ → ℕ → ℕ → Setting
 settingOf s id w = cond (leb (present s) (placeOf s id)) (sets.Refused NoSuchControl) (settingAt (controlFields s (placeOf s id)) (placeOf s id) w)
-
--- the values after it
-unfoldable pub storedValues : List ℕ → Setting → List ℕ
-storedValues values (sets.Stored k v) = set values k v
-storedValues values sets.Pressed = values
-storedValues values (sets.Refused r) = values

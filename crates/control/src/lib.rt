@@ -10,7 +10,6 @@ pub use values::Values;
 pub use values::at_opening;
 pub use values::read;
 pub use values::set;
-pub use values::stored;
 
 // What G_CTRL answers.
 pub enum Reading {

@@ -1,6 +1,6 @@
 // The values of controls.
 ghost use mathlib.Core.Path.{_≡_};
-ghost use Rattle.control.specs.Values.{openingValues, readingAt, reading, rangedAt, settingAt, settingOf, storedValues};
+ghost use Rattle.control.specs.Values.{openingValues, readingAt, reading, rangedAt, settingAt, settingOf};
 use crate::Reading;
 use crate::Setting;
 use crate::find;
@@ -39,9 +39,9 @@ fn reading_at(c: Control, v: u32) -> Reading
     Reading::Value(v)
 }
 
-// The value of the control with this id.
-pub fn read(s: &[u8], values: Values, id: u32) -> Reading
-    ensures { λ r. ⌜ r ≡ reading (now (s .entry)) values id ⌝ }
+// The value of the control with this id. The values are lent: a copy would be 128 bytes.
+pub fn read(s: &[u8], values: &Values, id: u32) -> Reading
+    ensures { λ r. ⌜ r ≡ reading (now (s .entry)) (now (values .entry)) id ⌝ }
 {
     let k = find::place(s, id);
     if find::count(s) <= k {
@@ -93,22 +93,4 @@ pub fn set(s: &[u8], id: u32, value: u32) -> Setting
         return Setting::Refused(Refusal::NoSuchControl);
     }
     setting_at(fields::control_fields(s, k), k, value)
-}
-
-// The values after a setting.
-pub fn stored(values: Values, what: Setting) -> Values
-    ensures { λ r. ⌜ r ≡ storedValues values what ⌝ }
-{
-    match what {
-        Setting::Stored(k, v) => {
-            if 32 <= k {
-                return values;
-            }
-            let mut next = values;
-            next[k as usize] = v;
-            next
-        }
-        Setting::Pressed => values,
-        Setting::Refused(_) => values,
-    }
 }

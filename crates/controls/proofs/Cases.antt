@@ -14,7 +14,7 @@ use Rattle.control.specs.declared.Setting.{Setting}
 use Rattle.control.specs.declared.Setting.the-variants as settings
 use Rattle.replies.specs.Replies.{valueReply}
 use Rattle.state.specs.State.{State, withValues}
-use Rattle.state.specs.Answers.{done, refusedWith}
+use Rattle.state.specs.Answers.{answer, done}
 use Rattle.controls.specs.Controls.{readAs, gCtrlOf, setAs, sCtrlOf}
 
 -- the reading x of the control with the id named in the argument
@@ -29,7 +29,7 @@ module _ (s : List ℕ) (d : State) (a : List ℕ) {id : ℕ} {x : Reading} (i :
   read-value v h = ap (λ (y : Reading). readAs y id d a) (sym h) ∙ g-ctrl-by
 
   -- a refused reading changes nothing
-  pub read-refused : (why : Refusal) {n : ℕ} → x ≡ reads.Refused why → n ≡ errnoOf why → refusedWith n d a ≡ gCtrlOf s d a
+  pub read-refused : (why : Refusal) {n : ℕ} → x ≡ reads.Refused why → n ≡ errnoOf why → answer n d a ≡ gCtrlOf s d a
   read-refused why h q = rw q (ap (λ (y : Reading). readAs y id d a) (sym h) ∙ g-ctrl-by)
 
 -- the setting x of the control with the id named in the argument to the value named there
@@ -48,5 +48,5 @@ module _ (s : List ℕ) (d : State) (a : List ℕ) {id w : ℕ} {x : Setting} (i
   set-pressed h = ap (λ (y : Setting). setAs y id d a) (sym h) ∙ s-ctrl-by
 
   -- a refused setting changes nothing
-  pub set-refused : (why : Refusal) {n : ℕ} → x ≡ settings.Refused why → n ≡ errnoOf why → refusedWith n d a ≡ sCtrlOf s d a
+  pub set-refused : (why : Refusal) {n : ℕ} → x ≡ settings.Refused why → n ≡ errnoOf why → answer n d a ≡ sCtrlOf s d a
   set-refused why h q = rw q (ap (λ (y : Setting). setAs y id d a) (sym h) ∙ s-ctrl-by)

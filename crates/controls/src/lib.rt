@@ -1,8 +1,8 @@
 // The requests about controls. Each takes an argument of the length that its word says, and answers any other as far as it reaches.
 ghost use mathlib.Core.Path.{_≡_};
 ghost use lib.ListN.{set};
-ghost use Rattle.stream.specs.Stream.{Stream};
-ghost use Rattle.state.specs.declared.Setup.{Setup};
+ghost use Rattle.buffers.specs.Stream.{Stream};
+ghost use Rattle.state.specs.Setup.{Setup};
 ghost use Rattle.state.specs.State.{State, stateOf};
 ghost use Rattle.state.specs.Answers.{answer};
 ghost use Rattle.controls.specs.Controls.{queryctrlOf, gCtrlOf, sCtrlOf};
@@ -28,8 +28,7 @@ pub fn g_ctrl(sheet: &[u8], values: &Values, argument: &mut [u8]) -> u32
     ensures { λ r. ⌜ ((p : Setup) (t : Stream) → answer r (stateOf p (now (values .entry)) t) (now (argument .exit)) ≡ gCtrlOf (now (sheet .entry)) (stateOf p (now (values .entry)) t) (now (argument .entry))) ⌝ }
 {
     let id = wire::word_at(argument, 0);
-    let copy = *values;
-    let reading = control::read(sheet, copy, id);
+    let reading = control::read(sheet, values, id);
     match reading {
         Reading::Value(v) => {
             replies::put_value(argument, id, v);

@@ -41,9 +41,7 @@ a gives t = record { asked = a; taken = t }
 unfoldable pub cases : List Case
 cases =
     -- left: 608 wide goes from -8 to 24
-    across (pos 100) (pos 608) gives across (pos 24) (pos 608)
-    ∷ across lowest (pos 608) gives across (minus 8) (pos 608)
-    ∷ across (minus 9) (pos 608) gives across (minus 8) (pos 608)
+    across (minus 9) (pos 608) gives across (minus 8) (pos 608)
     ∷ across (minus 8) (pos 608) gives across (minus 8) (pos 608)
     ∷ across (minus 7) (pos 608) gives across (minus 7) (pos 608)
     ∷ across (minus 5) (pos 608) gives across (minus 5) (pos 608)
@@ -59,7 +57,6 @@ cases =
     -- width: from 1 to 640, with the left pushed back where it needs the room
     ∷ across (pos 0) lowest gives across (pos 0) (pos 1)
     ∷ across (pos 0) (minus 1) gives across (pos 0) (pos 1)
-    ∷ across (pos 0) (pos 0) gives across (pos 0) (pos 1)
     ∷ across (pos 0) (pos 1) gives across (pos 0) (pos 1)
     ∷ across (pos 0) (pos 2) gives across (pos 0) (pos 2)
     ∷ across (pos 0) (pos 631) gives across (pos 0) (pos 631)

@@ -16,8 +16,7 @@ use Rattle.arrival.specs.Picture.{wholePicture}
 use Rattle.status.specs.declared.Verdict.{Verdict}
 use Rattle.status.specs.declared.Verdict.the-variants.{Blank}
 use Rattle.status.specs.Film.{verdictOf}
-use Rattle.state.specs.State.{State}
-use Rattle.state.specs.State.{frameSize, withStream}
+use Rattle.state.specs.State.{State, withStream}
 
 -- the answer to an arrival, and the state after it
 pub record Taken : Type 0 where
@@ -28,18 +27,18 @@ abbrev pub taken : Arrival → State → Taken
 taken a d = record { arrival = a; state = d }
 
 -- a picture arrives at the stream: whole if it has the image size and its microseconds are in 0..999,999
-abbrev pub pictureArrives : List ℕ → State → ℕ → ℕ → Time → Arrived
-pictureArrives s d lent n t = arrivalOf (d .stream) lent n (wholePicture n (frameSize s d) t) (frameSize s d) t
+abbrev pub pictureArrives : State → ℕ → ℕ → Time → Arrived
+pictureArrives d lent n t = arrivalOf (d .stream) lent n (wholePicture n (d .size) t) (d .size) t
 
 -- what an arrival of n bytes answers and leaves
-unfoldable pub takenOf : List ℕ → State → ℕ → ℕ → Time → Taken
-takenOf s d lent n t =
+unfoldable pub takenOf : State → ℕ → ℕ → Time → Taken
+takenOf d lent n t =
     cond (eqb (d .ready) 0) (taken (Refused Closed) d)
-    (taken (pictureArrives s d lent n t .arrival) (withStream d (pictureArrives s d lent n t .stream)))
+    (taken (pictureArrives d lent n t .arrival) (withStream d (pictureArrives d lent n t .stream)))
 
 -- what it leaves of the memory: only a stored one writes
-unfoldable pub takenMemory : List ℕ → State → List ℕ → List ℕ → Time → List ℕ
-takenMemory s d m f t = writtenBy (takenOf s d (length m) (length f) t .arrival) (frameSize s d) m f
+unfoldable pub takenMemory : State → List ℕ → List ℕ → Time → List ℕ
+takenMemory d m f t = writtenBy (takenOf d (length m) (length f) t .arrival) (d .size) m f
 
 -- the verdict
 unfoldable pub deviceVerdict : State → Verdict

@@ -1,3 +1,2 @@
 pub mod Film
 pub mod Opening
-pub mod Request

@@ -9,10 +9,8 @@ use Rattle.ioctl.specs.declared.refusals.Refusal.{Refusal}
 use Rattle.ioctl.specs.declared.refusals.Refusal.the-variants.{BadSheet, MemoryTooLong}
 use Rattle.fields.specs.Copy.{keptOf}
 use Rattle.sheet.specs.Rules.{goodSheet}
-use Rattle.buffers.specs.Queues.{entriesOf}
-use Rattle.stream.specs.Stream.{streamOf}
 use Rattle.state.specs.declared.Device.{Device}
-use Rattle.state.specs.State.{State, stateOf, closedState, openingState}
+use Rattle.state.specs.State.{State, stateIn, closedState, openingState}
 use Rattle.device.specs.declared.Made.{Made}
 
 -- a device as a whole: the sheet that it keeps, and its state
@@ -27,7 +25,7 @@ pub record Opened : Type 0 where
 
 -- the device that stands in these fields
 abbrev pub wholeOf : Device → Whole
-wholeOf d = record { sheet = d .sheet; state = stateOf (d .setup) (d .values) (streamOf (d .tally) (d .counts) (d .incoming) (entriesOf 32 (d .outgoing))) }
+wholeOf d = record { sheet = d .sheet; state = stateIn (d .setup) (d .values) (d .video) }
 
 abbrev pub madeAs : Made → Opened
 madeAs r = record { number = r .number; device = wholeOf (r .device) }

@@ -18,10 +18,7 @@ fn refused(why: Refusal) -> Made
         sheet: [0; 2688],
         setup,
         values: [0; 32],
-        tally: [0; 8],
-        counts: [0; 3],
-        incoming: [0; 32],
-        outgoing: [0; 160],
+        video: stream::fresh(0),
     };
     Made { number, device }
 }
@@ -43,10 +40,7 @@ pub fn open_device(sheet: &[u8], length: u64) -> Made
         sheet: copy,
         setup,
         values,
-        tally: [length, 0, 0, 0, 0, 0, 0, 0],
-        counts: [0; 3],
-        incoming: [0; 32],
-        outgoing: [0; 160],
+        video: stream::fresh(length),
     };
     Made { number: 0, device }
 }

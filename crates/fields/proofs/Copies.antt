@@ -1,44 +1,22 @@
 -- The device's copy of a sheet has the sheet's fields: behind the sheet stand zeros, and past a sheet's end there is 0 too.
 -- Assumes nothing.
 use Prim.Native.Nat.{ℕ, _+_, _-_, _*_, _≤_, _<_}
-use mathlib.Core.Path.{_≡_, refl, sym, _∙_}
-use mathlib.Core.Bool.{Bool, true, false}
+use mathlib.Core.Path.{_≡_}
 use mathlib.Core.List.{List, _++_}
-use native.Mathlib.Nat.{zero-add}
 use native.Mathlib.Omega.{arith}
-use borrow.Author.Tests.{ltb-true, ltb-false}
-use lib.Dec.{ltb}
-use lib.ListN.{length, getD, take, drop, replicate, length-replicate, length-drop, getD-replicate}
-use lib.Seq.{sets, take-append-le, drop-append-le}
+use lib.ListN.{length, getD, take, drop, replicate, length-drop}
+use lib.Seq.{take-append-le, drop-append-le}
 use Rattle.wire.specs.Words.{wordAt}
 use Rattle.wire.specs.Signed.{signedAt}
-use Rattle.wire.proofs.Lists.{past-end}
-use Rattle.wire.proofs.Stores.{sets-at, sets-behind, over-zeros}
+use Rattle.wire.proofs.Stores.{over-zeros, byte-over-zeros}
 use Rattle.wire.proofs.Words.{word-same}
 use Rattle.fields.specs.Copy.{keptOf}
 use Rattle.fields.specs.Fields.{identityAt, identityOf, formatsAt, formatCount, geometryAt, controlsAt, controlCount, formatAt, formatCode, formatDescription, controlAt, controlId, controlKind, limitsOf, controlFlags, controlFields, controlRecord}
 
--- a zero, wherever it is asked for
-zeros : (n j : ℕ) → getD {A = ℕ} (replicate n 0) j 0 ≡ 0
-zeros n j = by (ltb j n) refl
-  where
-    by : (b : Bool) → ltb j n ≡ b → getD {A = ℕ} (replicate n 0) j 0 ≡ 0
-    by true l = getD-replicate n j 0 0 (ltb-true j n l)
-    by false l = past-end (replicate n 0) j (simp length-replicate (ltb-false j n l))
-
 module _ (s : List ℕ) (fits : length s ≤ 2688) where
   kept-byte : (j : ℕ) → getD (keptOf s) j 0 ≡ getD s j 0
   unfolding keptOf
-  kept-byte j = by (ltb j (length s)) refl
-    where
-      by : (b : Bool) → ltb j (length s) ≡ b → getD (sets (replicate 2688 0) 0 s) j 0 ≡ getD s j 0
-      by true l =
-          let h = ltb-true j (length s) l in
-          let q = sets-at s (replicate 2688 0) 0 j 0 h (simp length-replicate (omega arith)) in
-          rw (zero-add j) at q
-      by false l =
-          let h = ltb-false j (length s) l in
-          sets-behind s (replicate 2688 0) 0 j 0 (omega arith) ∙ zeros 2688 j ∙ sym (past-end s j h)
+  kept-byte j = byte-over-zeros s 2688 fits j
 
   -- every word of the copy is the sheet's, and so is every number in it
   pub kept-word : (at : ℕ) → wordAt (keptOf s) at ≡ wordAt s at

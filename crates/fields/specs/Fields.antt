@@ -72,14 +72,18 @@ controlKind s k = wordAt s (controlAt s k + 4)
 unfoldable pub controlName : List ℕ → ℕ → List ℕ
 controlName s k = take 32 (drop (controlAt s k + 8) s)
 
-unfoldable pub limitsOf : List ℕ → ℕ → Limits
-limitsOf s k =
+-- the four numbers of the control that starts at a place
+abbrev pub limitsAt : List ℕ → ℕ → Limits
+limitsAt s at =
     record {
-      minimum = signedAt s (controlAt s k + 40);
-      maximum = signedAt s (controlAt s k + 44);
-      step = signedAt s (controlAt s k + 48);
-      initial = signedAt s (controlAt s k + 52);
+      minimum = signedAt s (at + 40);
+      maximum = signedAt s (at + 44);
+      step = signedAt s (at + 48);
+      initial = signedAt s (at + 52);
     }
+
+unfoldable pub limitsOf : List ℕ → ℕ → Limits
+limitsOf s k = limitsAt s (controlAt s k)
 
 unfoldable pub controlFlags : List ℕ → ℕ → ℕ
 controlFlags s k = wordAt s (controlAt s k + 56)

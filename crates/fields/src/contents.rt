@@ -1,7 +1,7 @@
 // The table of contents at the start of a sheet: four pairs of words, offset and count, and the identity that follows.
 ghost use mathlib.Core.Path.{_≡_};
 ghost use Prim.Native.Nat.{_<_};
-ghost use Rattle.fields.specs.Fields.{identityOf, formatCount, controlCount, formatAt, geometryAt, controlAt};
+ghost use Rattle.fields.specs.Fields.{identityAt, formatCount, controlCount, formatAt, geometryAt, controlAt};
 
 // How many formats the sheet has.
 pub fn format_count(s: &[u8]) -> u32
@@ -17,12 +17,11 @@ pub fn control_count(s: &[u8]) -> u32
     wire::word_at(s, 28)
 }
 
-// Driver, card, bus and version: the 84 bytes that open the answer to QUERYCAP.
-pub fn identity(s: &[u8]) -> &[u8]
-    ensures { λ r. ⌜ now r ≡ identityOf (now (s .entry)) ⌝ }
+// Where the identity starts: driver, card, bus and version, the 84 bytes that open the answer to QUERYCAP.
+pub fn identity_at(s: &[u8]) -> usize
+    ensures { λ r. ⌜ r ≡ identityAt (now (s .entry)) ⌝ }
 {
-    let at = wire::word_at(s, 0) as usize;
-    wire::part(s, at, 84)
+    wire::word_at(s, 0) as usize
 }
 
 // Where format k starts. The bound lets callers add to it.

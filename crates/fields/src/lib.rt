@@ -7,12 +7,12 @@ mod formats;
 
 pub use contents::control_at;
 pub use contents::control_count;
+pub use contents::format_at;
 pub use contents::format_count;
 pub use contents::geometry_at;
-pub use contents::identity;
+pub use contents::identity_at;
 pub use controls::control_fields;
 pub use controls::control_id;
-pub use controls::control_record;
 pub use copy::Sheet;
 pub use copy::kept;
 pub use formats::format_code;

@@ -2,8 +2,7 @@
 use Prim.Native.Nat.{ℕ}
 use mathlib.Core.List.{List, [], _∷_}
 use lib.IntN.{ℤ, pos, negℤ}
-use lib.ListN.{getD, replicate}
-use Rattle.wire.specs.Signed.{signed, bits}
+use Rattle.wire.specs.Signed.{bits, signedAt}
 use Rattle.geometry.specs.Geometry.{lineAlignment, cropBounds, cropDefault}
 use Rattle.geometry.specs.declared.Rect.{Rect}
 use Rattle.format.specs.declared.Format.{Format}
@@ -11,19 +10,18 @@ use Rattle.format.specs.Code.{YUYV, YU12}
 use Rattle.format.specs.Size.{bytesPerLine, imageSize}
 use Rattle.buffers.specs.Slot.{slotSize}
 use Rattle.stream.specs.Calls.{grantOf}
-use Rattle.stream.specs.Stream.{Stream}
 use Rattle.wire.specs.Words.{bytesOf}
 use Rattle.fields.specs.Copy.{keptOf}
 use Rattle.status.specs.Film.{verdictNumber}
 use Rattle.state.specs.State.{State}
-use Rattle.device.specs.Opening.{Opened}
+use Rattle.state.specs.Answers.{Answer}
+use Rattle.requests.specs.Request.{requestAnswer}
 use Rattle.device.specs.Opening.{openedOf}
-use Rattle.device.specs.Request.{requestAnswer}
 use Rattle.device.specs.Film.{deviceVerdict}
 use Rattle.planes.specs.Planes.{planeStart}
 use Rattle.negotiation.specs.Negotiation.{negotiated}
 use Rattle.crop.specs.Crop.{clamped}
-use Rattle.control.specs.Values.{settingOf, storedValues}
+use Rattle.controls.specs.Controls.{sCtrlOf}
 use Rattle.bench.specs.Bench.{benchSheet, benchMemory}
 
 -- what the definitions compute, and what the device is to say
@@ -73,9 +71,13 @@ across left width = record { left = left; top = cropDefault benchSheet .top; wid
 
 -- ---- controls
 
--- the contrast after it is set to a value: the first of 32 zeros, with what the setting stores
+-- what S_CTRL answers where the contrast is set to a value
+abbrev set : ℤ → Answer
+set value = sCtrlOf benchSheet (openedOf benchSheet benchMemory .device .state) (bytesOf (0x00980901 ∷ bits value ∷ []))
+
+-- the value that it shows: the second word of the answered argument
 abbrev contrast : ℤ → ℤ
-contrast value = signed (getD (storedValues (replicate 32 0) (settingOf benchSheet 0x00980901 (bits value))) 0 0)
+contrast value = signedAt (set value .argument) 4
 
 -- ---- a run
 
@@ -117,6 +119,8 @@ figures =
     -- contrast: the nearest value, the one nearer the minimum of two that are as near
     ∷ contrast (minus 8) gives minus 10
     ∷ contrast (pos 0) gives minus 2
+    -- a value above the greatest is refused with 34
+    ∷ pos (set (pos 11) .number) gives pos 34
     -- a run of no arrivals, stopped: there was a run, and the film is BLANK
     ∷ pos (ranEmpty .stream .run .ran) gives pos 1
     ∷ pos (verdictNumber (deviceVerdict ranEmpty)) gives pos 1

@@ -3,10 +3,10 @@ use crate::pictures;
 use crate::say;
 use arrival::Arrival;
 use buffers::Time;
+use buffers::Words;
 use state::Device;
-use state::Setup;
+use state::SetupWords;
 use status::Verdict;
-use stream::Tally;
 
 fn told(a: Arrival) {
     match a {
@@ -30,29 +30,13 @@ fn said(bytes: usize, time: Time) {
 
 // A frame arrives at a device: it is said what it is answered, and the device goes on as it leaves it.
 fn taken(d: Device, memory: &mut [u8], frame: &[u8], time: Time) -> Device {
-    let sheet = d.sheet;
-    let mut tally = d.tally;
-    let mut counts = d.counts;
-    let mut incoming = d.incoming;
-    let mut outgoing = d.outgoing;
-    let a = device::arrive(
-        &sheet,
-        d.setup,
-        &mut tally,
-        &mut counts,
-        &mut incoming,
-        &mut outgoing,
-        memory,
-        frame,
-        time,
-    );
+    let setup = d.setup;
+    let mut video = d.video;
+    let a = device::arrive(&setup, &mut video, memory, frame, time);
     told(a);
     say::letter(b'\n');
     let mut n = d;
-    n.tally = tally;
-    n.counts = counts;
-    n.incoming = incoming;
-    n.outgoing = outgoing;
+    n.video = video;
     n
 }
 
@@ -71,8 +55,8 @@ pub(crate) fn arrive(
     taken(d, memory, frame, time)
 }
 
-pub(crate) fn verdict(s: Setup, tally: &Tally) {
-    let v = device::verdict_of(s, tally);
+pub(crate) fn verdict(setup: &SetupWords, video: &Words) {
+    let v = device::verdict_of(setup, video);
     match v {
         Verdict::Running => say::text(b"verdict: RUNNING\n"),
         Verdict::Blank => say::text(b"verdict: BLANK\n"),
@@ -82,9 +66,9 @@ pub(crate) fn verdict(s: Setup, tally: &Tally) {
 }
 
 // Plane k of a frame whose words tell their own places: so the plane's first word tells where it starts.
-pub(crate) fn plane<'a>(sheet: &'a [u8], s: Setup, frame: &'a [u8], k: u32) {
+pub(crate) fn plane(sheet: &[u8], setup: &SetupWords, frame: &[u8], k: u32) {
     let mut number: u32 = 0;
-    let part = device::plane(sheet, s, frame, k, &mut number);
+    let part = device::plane(sheet, setup, frame, k, &mut number);
     say::number(b"plane ", k);
     say::number(b": ", number);
     if number == 0 {

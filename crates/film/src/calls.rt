@@ -83,32 +83,15 @@ struct Answer {
 
 fn request(d: Device, word: u32, a: &mut [u8]) -> Answer {
     let sheet = d.sheet;
+    let mut setup = d.setup;
     let mut values = d.values;
-    let mut tally = d.tally;
-    let mut counts = d.counts;
-    let mut incoming = d.incoming;
-    let mut outgoing = d.outgoing;
-    let r = device::request(
-        &sheet,
-        d.setup,
-        &mut values,
-        &mut tally,
-        &mut counts,
-        &mut incoming,
-        &mut outgoing,
-        word,
-        a,
-    );
-    let number = r.number;
-    let setup = r.setup;
+    let mut video = d.video;
+    let number = requests::request(&sheet, &mut setup, &mut values, &mut video, word, a);
     let device = Device {
         sheet,
         setup,
         values,
-        tally,
-        counts,
-        incoming,
-        outgoing,
+        video,
     };
     Answer { number, device }
 }

@@ -55,8 +55,9 @@ fn arrive(w: Scene, memory: &mut [u8], space: &mut [u8], bytes: usize) -> Scene 
 
 fn verdict(w: Scene) -> Scene {
     let d = w.device;
-    let tally = d.tally;
-    arrivals::verdict(d.setup, &tally);
+    let setup = d.setup;
+    let video = d.video;
+    arrivals::verdict(&setup, &video);
     w
 }
 
@@ -72,9 +73,10 @@ fn make_frame(w: Scene, space: &mut [u8]) -> Scene {
 fn plane(w: Scene, space: &[u8]) -> Scene {
     let d = w.device;
     let sheet = d.sheet;
+    let setup = d.setup;
     arrivals::plane(
         &sheet,
-        d.setup,
+        &setup,
         wire::part(space, 0, w.frame as usize),
         w.number,
     );

@@ -24,10 +24,7 @@ pub(crate) fn empty() -> Scene {
         sheet: [0; 2688],
         setup,
         values: [0; 32],
-        tally: [0; 8],
-        counts: [0; 3],
-        incoming: [0; 32],
-        outgoing: [0; 160],
+        video: stream::fresh(0),
     };
     with_device(device, true)
 }

@@ -1,6 +1,5 @@
 // The geometry of a sheet: sizes, line alignment, crop bounds and default, pixel aspect.
 ghost use mathlib.Core.Path.{_≡_};
-ghost use Prim.Native.Nat.{_<_};
 ghost use Rattle.geometry.specs.Geometry.{rangeAt, widthsOf, heightsOf, lineAlignment, rectAt, cropBounds, cropDefault, pixelAspect};
 
 // The allowed widths or heights: from least to greatest by step.
@@ -27,28 +26,28 @@ pub struct Fraction {
     pub denominator: u32,
 }
 
-// Least, greatest and step at a place.
+// Least, greatest and step at a place: three of four words, since one test serves four.
 fn range_at(s: &[u8], at: usize) -> Range
-    requires { ⌜ at < 2199023255552 ⌝ }
     ensures { λ r. ⌜ r ≡ rangeAt (now (s .entry)) at ⌝ }
 {
+    let w = wire::four_words(s, at);
     Range {
-        least: wire::word_at(s, at),
-        greatest: wire::word_at(s, at + 4),
-        step: wire::word_at(s, at + 8),
+        least: w[0],
+        greatest: w[1],
+        step: w[2],
     }
 }
 
 // Left, top, width and height at a place.
 fn rect_at(s: &[u8], at: usize) -> Rect
-    requires { ⌜ at < 2199023255552 ⌝ }
     ensures { λ r. ⌜ r ≡ rectAt (now (s .entry)) at ⌝ }
 {
+    let w = wire::four_words(s, at);
     Rect {
-        left: wire::signed_at(s, at),
-        top: wire::signed_at(s, at + 4),
-        width: wire::signed_at(s, at + 8),
-        height: wire::signed_at(s, at + 12),
+        left: wire::as_signed(w[0]),
+        top: wire::as_signed(w[1]),
+        width: wire::as_signed(w[2]),
+        height: wire::as_signed(w[3]),
     }
 }
 

@@ -2,4 +2,3 @@ pub mod Places
 pub mod Counts
 pub mod Sizes
 pub mod Values
-pub mod Figures

@@ -8,10 +8,8 @@ use lib.ListN.{length, take, drop}
 use Rattle.buffers.specs.declared.Time.{Time}
 use Rattle.buffers.specs.declared.Filled.{Filled}
 use Rattle.buffers.specs.Slot.{slotOffset}
-use Rattle.stream.specs.declared.Reply.{Reply}
 use Rattle.stream.specs.declared.Reply.the-variants.{Done, Returned}
 use Rattle.stream.specs.Calls.{requestOf, enqueueOf, dequeueOf, startOf, stopOf}
-use Rattle.arrival.specs.declared.Arrival.{Arrival as ArrivalAnswer}
 use Rattle.arrival.specs.declared.Arrival.the-variants as arrivals
 use Rattle.history.specs.Calls.{Call, Answer, World, opened, arrives, sizeReply, answer, next, after}
 use Rattle.history.specs.Calls.Call.{request, enqueue, dequeue, start, stop, resize, arrival, other}

@@ -6,8 +6,6 @@ use native.Mathlib.Omega.{arith}
 use native.Mathlib.Numerals.{add-one}
 use mathlib.Core.List.{List, [], _∷_, _++_, map, append-assoc, append-nil, head-eq-of-cons-eq, tail-eq-of-cons-eq}
 use lib.ListN.{length, length-append}
-use Rattle.buffers.specs.declared.Time.{Time}
-use Rattle.stream.specs.Stream.{Run}
 use Rattle.stream.specs.Stream.{stoppedRun}
 use Rattle.history.specs.Paper.{Frame, Pair, Paper, Event, blank, frameOf, rest, filled, step, noted, numberOf, first, given, handedOver, numbersBelow}
 use Rattle.history.specs.Paper.Event.{put, whole, damaged, handed, begun, ended, sized, idle}

@@ -6,9 +6,10 @@ use native.Mathlib.Omega.{arith}
 use lib.Dec.{eqb}
 use mathlib.Core.List.{List, [], _∷_, map}
 use Rattle.buffers.specs.declared.Filled.{Filled}
-use Rattle.buffers.specs.Search.{any}
-use Rattle.buffers.specs.Queues.{ofBuffer, isIncoming, isOutgoing}
-use Rattle.status.specs.Buffer.{flagsOf}
+use Rattle.buffers.specs.Lists.{any}
+use Rattle.buffers.specs.declared.Standing.the-variants.{Dequeued, Incoming, Outgoing}
+use Rattle.buffers.specs.Moves.{ofBuffer, isIncoming, isOutgoing, standingOf}
+use Rattle.status.specs.Buffer.{flagsFor}
 use Rattle.history.specs.Calls.{World}
 use Rattle.history.specs.Paper.{Pair, Paper, indexOf}
 use Rattle.history.specs.Claims.{paperAfter, worldAfter, timesIn, timesOut, OnePlace}
@@ -24,14 +25,14 @@ any-entries k [] = refl
 any-entries k (x ∷ o) = ap (λ (b : Bool). cond (eqb (x .index) k) true b) (any-entries k o)
 
 -- 4 if outgoing, 2 if incoming, where it is not both
-flags-count : (a b : Bool) (i o : ℕ) → cond a 1 0 ≡ o → cond b 1 0 ≡ i → o + i ≤ 1 → cond a 4 (cond b 2 0) ≡ 2 * i + 4 * o
-flags-count true true i o e f h = absurd (omega (arith, e, f))
-flags-count true false i o e f h = omega (arith, e, f)
-flags-count false true i o e f h = omega (arith, e, f)
-flags-count false false i o e f h = omega (arith, e, f)
+flags-count : (a b : Bool) (g : Filled) (i o : ℕ) → cond a 1 0 ≡ o → cond b 1 0 ≡ i → o + i ≤ 1 → flagsFor (cond a (Outgoing g) (cond b Incoming Dequeued)) ≡ 2 * i + 4 * o
+flags-count true true g i o e f h = absurd (omega (arith, e, f))
+flags-count true false g i o e f h = omega (arith, e, f)
+flags-count false true g i o e f h = omega (arith, e, f)
+flags-count false false g i o e f h = omega (arith, e, f)
 
-flags-told : (w : World) (p : Paper) (k : ℕ) → Kept w p → flagsOf (w .stream .queues) k ≡ 2 * timesIn p k + 4 * timesOut p k
-unfolding flagsOf isIncoming isOutgoing
+flags-told : (w : World) (p : Paper) (k : ℕ) → Kept w p → flagsFor (standingOf (w .stream .queues) k) ≡ 2 * timesIn p k + 4 * timesOut p k
+unfolding standingOf isIncoming isOutgoing
 flags-told w p k g =
     let (out-once, in-once) = nodup-append (map indexOf (p .outgoing)) (p .incoming) (g .sound .apart) in
     let out : cond (isOutgoing (w .stream .queues) k) 1 0 ≡ timesOut p k =
@@ -39,12 +40,12 @@ flags-told w p k g =
     ∙ ap (λ (b : Bool). cond b 1 0) (any-entries k (p .outgoing)) ∙ any-times k (map indexOf (p .outgoing)) out-once in
     let in-it : cond (isIncoming (w .stream .queues) k) 1 0 ≡ timesIn p k =
     ap (λ (l : List ℕ). cond (any (λ x. eqb x k) l) 1 0) (g .tied .holds .ins) ∙ any-times k (p .incoming) in-once in
-    flags-count (isOutgoing (w .stream .queues) k) (isIncoming (w .stream .queues) k) (timesIn p k) (timesOut p k) out in-it
+    flags-count (isOutgoing (w .stream .queues) k) (isIncoming (w .stream .queues) k) _ (timesIn p k) (timesOut p k) out in-it
     (omega (arith, times-once k (line p) (g .sound .apart), times-append k (map indexOf (p .outgoing)) (p .incoming)))
 
 -- wherever the stream is as the paper says
 pub placed : (w : World) (p : Paper) (k : ℕ) → Kept w p
-    → (timesIn p k + timesOut p k ≤ 1) × (p .granted ≤ k → timesIn p k + timesOut p k ≡ 0) × (flagsOf (w .stream .queues) k ≡ 2 * timesIn p k + 4 * timesOut p k)
+    → (timesIn p k + timesOut p k ≤ 1) × (p .granted ≤ k → timesIn p k + timesOut p k ≡ 0) × (flagsFor (standingOf (w .stream .queues) k) ≡ 2 * timesIn p k + 4 * timesOut p k)
 placed w p k g = (
   omega (arith, times-once k (line p) (g .sound .apart), times-append k (map indexOf (p .outgoing)) (p .incoming)),
   λ h. omega (arith, times-past k (p .granted) (line p) (g .sound .below) h, times-append k (map indexOf (p .outgoing)) (p .incoming)),

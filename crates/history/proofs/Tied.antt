@@ -6,41 +6,39 @@ use Prim.Native.Nat.{ℕ, _+_, _*_, _≤_, _<_}
 use native.Mathlib.Omega.{arith}
 use native.Mathlib.Decide.{decLt}
 use native.Mathlib.Nat.{add-zero}
-use borrow.Author.Tests.{leb-true, leb-false, eqb-true, eqb-false, eq-eqb, ne-eqb}
+use borrow.Author.Tests.{leb-true, leb-false, eqb-true, eqb-false, eq-eqb, ne-eqb, lt-ltb}
 use lib.Dec.{leb, eqb}
 use mathlib.Core.List.{List, [], _∷_, _++_, map}
 use lib.ListN.{length, take, drop, length-map}
 use lib.Seq.{sets, length-sets}
-use Rattle.ioctl.specs.declared.refusals.Refusal.{Refusal}
 use Rattle.ioctl.specs.declared.refusals.Refusal.the-variants.{NoSuchIndex, NotDequeued, NoBuffers, Streaming, NothingOutgoing, BuffersExist, MemoryLength, RunFull}
 use Rattle.wire.proofs.Parts.{part-before, part-behind, part-stored}
 use Rattle.buffers.specs.declared.Time.{Time}
 use Rattle.buffers.specs.declared.Filled.{Filled}
-use Rattle.buffers.specs.Queues.{Queues}
-use Rattle.buffers.specs.Search.{any}
+use Rattle.buffers.specs.Lists.{any, rest}
 use Rattle.buffers.specs.Slot.{slotSize, slotOffset}
-use Rattle.buffers.specs.Queues.{noFrame, ofBuffer, isIncoming, isOutgoing, noBuffers, pushed, oldestIncoming, oldestOutgoing, filledOldest, popped}
+use Rattle.buffers.specs.Stream.{Queues, withRun, onQueues}
+use Rattle.buffers.specs.Words.{low}
+use Rattle.buffers.specs.Moves.{noFrame, ofBuffer, isIncoming, isOutgoing, oldestOf, nextOf, emptied, pushed, filledOldest, popped}
 use Rattle.buffers.proofs.Slots.{slot-least, slots-apart}
-use Rattle.buffers.proofs.Views.{Holds, queued-is, done-is, holds-none, holds-empty, holds-pushed, oldest-incoming, oldest-outgoing, holds-filled, holds-popped}
-use Rattle.stream.specs.declared.Reply.{Reply}
 use Rattle.stream.specs.declared.Reply.the-variants.{Done, Granted, Returned, Refused}
-use Rattle.stream.specs.Stream.{Run}
+use Rattle.buffers.specs.Stream.{Run}
 use Rattle.stream.specs.Calls.{Step}
-use Rattle.stream.specs.Stream.{Stream}
-use Rattle.stream.specs.Stream.{oneMore, streaming, freshStream, withQueues, started, stoppedRun, stopped, handedRun}
-use Rattle.stream.specs.Calls.{answers, refuses, grantOf, requestOf, enqueueOf, dequeueOf, startOf, stopOf}
+use Rattle.buffers.specs.Stream.{Stream}
+use Rattle.stream.specs.Stream.{oneMore, streaming, freshStream, started, stoppedRun, stopped, handedRun}
+use Rattle.stream.specs.Calls.{answers, refuses, grantOf, requestOf, enqueueOf, handedOver, dequeueOf, startOf, stopOf}
 use Rattle.stream.proofs.Grants.{grant-few, grant-fits}
 use Rattle.arrival.specs.declared.Arrival.{Arrival}
 use Rattle.arrival.specs.declared.Arrival.the-variants as arrivals
 use Rattle.arrival.specs.Arrivals.{Arrived}
-use Rattle.arrival.specs.Arrivals.{runLimit, withRun, countedRun, damagedRun, droppedRun, answers as arrives-as, placedOf, acceptedOf, arrivalOf, writtenBy}
+use Rattle.arrival.specs.Arrivals.{runLimit, countedRun, damagedRun, droppedRun, answers as arrives-as, placedIn, placedOf, acceptedOf, arrivalOf, writtenBy}
 use Rattle.history.specs.Calls.{Call, Answer, World, opened, answer, withStream, next}
 use Rattle.history.specs.Calls.Call.{request, enqueue, dequeue, start, stop, resize, arrival, other}
 use Rattle.history.specs.Calls.Answer.{replied, arrived}
 use Rattle.history.specs.Paper.{Pair, Paper, Event, indexOf, blank, arrivedWhole, told, frameOf, step}
 use Rattle.history.specs.Paper.Event.{put, whole, damaged, handed, begun, ended, sized, idle}
 use Rattle.history.proofs.Lists.{All, all-snoc, all-append, all-join, all-map, all-both, all-of-map, all-to-map, map-snoc, nodup-before, none-passes}
-use Rattle.history.proofs.Sound.{Sound, Fits, lineOf, line, paper, room, room-more}
+use Rattle.history.proofs.Sound.{Sound, Fits, lineOf, line, paper, room-more}
 
 -- a pair of the paper, as the stream keeps it
 abbrev pub entry : Pair → Filled
@@ -49,6 +47,31 @@ entry x = record { index = x .index; number = x .frame .number; used = length (x
 -- the slot of x, in memory m with frames of this size, starts with its bytes
 abbrev pub Held : ℕ → List ℕ → Pair → Type 0
 Held size m x = (length (x .frame .bytes) ≤ size) × (take (length (x .frame .bytes)) (drop (slotOffset (x .index) size) m) ≡ x .frame .bytes)
+
+-- n buffers are granted, and these are in the queues
+pub record Holds (q : Queues) (n : ℕ) (i : List ℕ) (o : List Filled) : Type 0 where
+  pub granted : q .granted ≡ n
+  pub ins : q .incoming ≡ i
+  pub outs : q .outgoing ≡ o
+
+holds-empty : (m : ℕ) → Holds (emptied m) m [] []
+unfolding emptied
+holds-empty m = record { granted = refl; ins = refl; outs = refl }
+
+module _ (q : Queues) (n : ℕ) (i : List ℕ) (o : List Filled) (h : Holds q n i o) where
+  holds-pushed : (k : ℕ) → length o + length i < 32 → Holds (pushed q k) n (i ++ (k ∷ [])) o
+  unfolding pushed
+  holds-pushed k l =
+      simp (h .ins, h .outs, lt-ltb _ _ l) record { granted = h .granted; ins = refl; outs = refl }
+
+  holds-popped : Holds (popped q) n i (rest o)
+  unfolding popped
+  holds-popped = record { granted = h .granted; ins = h .ins; outs = ap rest (h .outs) }
+
+  holds-filled : (k : ℕ) (j : List ℕ) → i ≡ k ∷ j → (a b : ℕ) (t : Time) → Holds (filledOldest q a b t) n j (o ++ (record { index = k; number = a; used = b; time = t } ∷ []))
+  unfolding filledOldest
+  holds-filled k j e a b t =
+      simp (h .ins, e) record { granted = h .granted; ins = refl; outs = ap (λ (x : List Filled). x ++ (record { index = k; number = a; used = b; time = t } ∷ [])) (h .outs) }
 
 pub record Tied (w : World) (p : Paper) : Type 0 where
   pub size : w .size ≡ p .size
@@ -60,13 +83,13 @@ pub record Tied (w : World) (p : Paper) : Type 0 where
   pub held : All (Held (p .size) (w .memory)) (p .outgoing)
 
 pub tied-opened : (size : ℕ) (m : List ℕ) → Tied (opened size m) (blank size)
-unfolding freshStream noBuffers
+unfolding freshStream emptied
 tied-opened size m = record {
   size = refl;
   running = refl;
   run = refl;
   noted = refl;
-  holds = holds-none;
+  holds = holds-empty 0;
   fits = omega arith;
   held = tt;
 }
@@ -137,7 +160,7 @@ follows-enqueue w p k t s = go (leb (w .stream .queues .granted) k) refl (isInco
     q = w .stream .queues
 
     r : Bool → Bool → Step
-    r a b = cond a (refuses NoSuchIndex (w .stream)) (cond b (refuses NotDequeued (w .stream)) (answers Done (withQueues (w .stream) (pushed (w .stream .queues) k))))
+    r a b = cond a (refuses NoSuchIndex (w .stream)) (cond b (refuses NotDequeued (w .stream)) (answers Done (onQueues (λ q. pushed q k) (w .stream))))
 
     go : (a : Bool) → leb (w .stream .queues .granted) k ≡ a → (b : Bool) → (isIncoming (w .stream .queues) k || isOutgoing (w .stream .queues) k) ≡ b
         → Follows (withStream w (r a b .stream)) p (enqueue k) (replied (r a b .reply))
@@ -155,7 +178,7 @@ follows-enqueue w p k t s = go (leb (w .stream .queues .granted) k) refl (isInco
             running = t .running;
             run = t .run;
             noted = t .noted;
-            holds = holds-pushed q (p .granted) (p .incoming) (map entry (p .outgoing)) k (t .holds) (omega (arith, room-more p k s fit));
+            holds = holds-pushed q (p .granted) (p .incoming) (map entry (p .outgoing)) (t .holds) k (omega (arith, room-more p k s fit, length-map (p .outgoing) entry));
             fits = t .fits;
             held = t .held;
           };
@@ -183,39 +206,35 @@ tied-handed w size granted on r i (x ∷ o) t s h = record {
   running = t .running;
   run = handed-run (w .stream .run) r (t .run) (omega (arith, s .adds, s .limit));
   noted = t .noted;
-  holds = holds-popped (w .stream .queues) granted i (entry x) (map entry o) (t .holds);
+  holds = holds-popped (w .stream .queues) granted i (entry x ∷ map entry o) (t .holds);
   fits = t .fits;
   held = t .held .1;
 }
 
--- the oldest outgoing entry is that of the first pair
-pub first-entry : (q : Queues) (n : ℕ) (i : List ℕ) (o : List Pair) → Holds q n i (map entry o) → 0 < length o
-    → replied (Returned (oldestOutgoing q)) ≡ replied (Returned (firstOf o))
-first-entry q n i [] h l = absurd (omega arith)
-first-entry q n i (x ∷ o) h l = ap (λ (f : Filled). replied (Returned f)) (oldest-outgoing q n i (entry x) (map entry o) h)
+follows-handed : (w : World) (p : Paper) (o : List Pair) → p .outgoing ≡ o → Tied w p → Sound p
+    → Follows (withStream w (handedOver (oldestOf (map entry o)) (w .stream) .stream)) p dequeue (replied (handedOver (oldestOf (map entry o)) (w .stream) .reply))
+follows-handed w p [] e t s = nothing w p dequeue (replied (Refused NothingOutgoing)) t refl
+follows-handed w p (x ∷ o) e t s =
+    let some : 0 < length (p .outgoing) = rw e (omega arith) in
+    record {
+      event = handed;
+      tells = refl;
+      fits = some;
+      foretold = rw e refl;
+      tied = tied-handed w (p .size) (p .granted) (p .running) (p .run) (p .incoming) (p .outgoing) t s some;
+    }
 
 follows-dequeue : (w : World) (p : Paper) → Tied w p → Sound p → Follows (next w dequeue) p dequeue (answer w dequeue)
 unfolding dequeueOf
-follows-dequeue w p t s = go (eqb (w .stream .queues .granted) 0) (eqb (w .stream .queues .done) 0) refl
+follows-dequeue w p t s = go (eqb (w .stream .queues .granted) 0)
   where
-    r : Bool → Bool → Step
-    r a b = cond a (refuses NoBuffers (w .stream)) (cond b (refuses NothingOutgoing (w .stream))
-        (answers (Returned (oldestOutgoing (w .stream .queues)))
-        (record { length = w .stream .length; streaming = w .stream .streaming; run = handedRun (w .stream .run); queues = popped (w .stream .queues) })))
+    r : Bool → List Filled → Step
+    r a o = cond a (refuses NoBuffers (w .stream)) (handedOver (oldestOf o) (w .stream))
 
-    go : (a b : Bool) → eqb (w .stream .queues .done) 0 ≡ b → Follows (withStream w (r a b .stream)) p dequeue (replied (r a b .reply))
-    go true b f = nothing w p dequeue (replied (Refused NoBuffers)) t refl
-    go false true f = nothing w p dequeue (replied (Refused NothingOutgoing)) t refl
-    go false false f =
-        let some : 0 < length (p .outgoing) =
-        omega (arith, eqb-false (w .stream .queues .done) 0 f, done-is (w .stream .queues) (p .granted) (p .incoming) (map entry (p .outgoing)) (t .holds), length-map (p .outgoing) entry) in
-        record {
-          event = handed;
-          tells = refl;
-          fits = some;
-          foretold = first-entry (w .stream .queues) (p .granted) (p .incoming) (p .outgoing) (t .holds) some;
-          tied = tied-handed w (p .size) (p .granted) (p .running) (p .run) (p .incoming) (p .outgoing) t s some;
-        }
+    go : (a : Bool) → Follows (withStream w (r a (w .stream .queues .outgoing) .stream)) p dequeue (replied (r a (w .stream .queues .outgoing) .reply))
+    go true = nothing w p dequeue (replied (Refused NoBuffers)) t refl
+    go false =
+        subst (λ (o : List Filled). Follows (withStream w (r false o .stream)) p dequeue (replied (r false o .reply))) (sym (t .holds .outs)) (follows-handed w p (p .outgoing) refl t s)
 
 -- ---- a run begins and ends
 
@@ -248,10 +267,10 @@ unfolding stopped
 tied-ended w p n t h = record {
   size = t .size;
   running = refl;
-  run = ended-run (eqb (w .stream .streaming) 0) (p .running) (t .running) (w .stream .run) (p .run) (t .run) (w .stream .queues .done) (length (p .outgoing))
-      (done-is (w .stream .queues) (p .granted) (p .incoming) (map entry (p .outgoing)) (t .holds) ∙ length-map (p .outgoing) entry);
+  run = ended-run (eqb (w .stream .streaming) 0) (p .running) (t .running) (w .stream .run) (p .run) (t .run) (length (w .stream .queues .outgoing)) (length (p .outgoing))
+      (ap length (t .holds .outs) ∙ length-map (p .outgoing) entry);
   noted = t .noted;
-  holds = holds-empty (w .stream .queues) (p .granted) (p .incoming) (map entry (p .outgoing)) n (t .holds);
+  holds = holds-empty n;
   fits = h;
   held = tt;
 }
@@ -351,10 +370,14 @@ held-other size k m b l x g = (g .0 .0, same ∙ g .0 .1)
           (omega (arith, slots-apart k (x .index) size (omega (arith, g .1)), slot-least size))
     ]
 
+-- the number of an arrival is its count
+number-is : (r q : Run) → r ≡ q → q .accepted ≤ runLimit → low (r .accepted) ≡ q .accepted
+number-is r q e h = ap (λ (x : Run). low (x .accepted)) e ∙ omega arith
+
 -- what a stored arrival leaves
 abbrev storedStream : World → List ℕ → Time → Stream
 storedStream w b t =
-    withQueues (withRun (w .stream) (countedRun (w .stream .run))) (filledOldest (w .stream .queues) (w .stream .run .accepted) (length b) t)
+    onQueues (λ q. filledOldest q (low (w .stream .run .accepted)) (length b) t) (withRun (w .stream) (countedRun (w .stream .run)))
 
 tied-stored : (w : World) (size granted : ℕ) (on : Bool) (r : Run) (k : ℕ) (i : List ℕ) (o : List Pair) (b : List ℕ) (t : Time)
     → Tied w (paper size granted on r (k ∷ i) o) → Sound (paper size granted on r (k ∷ i) o) → length b ≤ size
@@ -368,16 +391,16 @@ tied-stored w size granted on r k i o b t x s l =
     let lt : k < granted = all-append (λ j. j < granted) (map indexOf o) (k ∷ i) (s .below) .1 .0 in
     let in-it : at + slotSize size ≤ length m = omega (arith, slots-apart k granted size lt, x .fits) in
     let notk : All (λ y. y .index ≢ k) o = all-of-map indexOf (λ y. y ≢ k) o (nodup-before (map indexOf o) k i (s .apart)) in
-    let number : w .stream .run .accepted ≡ r .accepted = ap (λ (q : Run). q .accepted) (x .run) in
-    let entries : map entry o ++ (record { index = k; number = w .stream .run .accepted; used = length b; time = t } ∷ []) ≡ map entry (o ++ (new ∷ [])) =
+    let number : low (w .stream .run .accepted) ≡ r .accepted = number-is (w .stream .run) r (x .run) (s .limit) in
+    let entries : map entry o ++ (record { index = k; number = low (w .stream .run .accepted); used = length b; time = t } ∷ []) ≡ map entry (o ++ (new ∷ [])) =
     ap (λ (n : ℕ). map entry o ++ (record { index = k; number = n; used = length b; time = t } ∷ [])) number ∙ sym (map-snoc entry o new) in
     record {
       size = x .size;
       running = x .running;
       run = stored-run (w .stream .run) r (x .run);
       noted = x .noted ∙ sym (length-sets m at b);
-      holds = subst (Holds (filledOldest (w .stream .queues) (w .stream .run .accepted) (length b) t) granted i) entries
-          (holds-filled (w .stream .queues) granted k i (map entry o) (w .stream .run .accepted) (length b) t (x .holds) (omega (arith, room p s, length-map o entry)));
+      holds = subst (Holds (filledOldest (w .stream .queues) (low (w .stream .run .accepted)) (length b) t) granted i) entries
+          (holds-filled (w .stream .queues) granted (k ∷ i) (map entry o) (x .holds) k i refl (low (w .stream .run .accepted)) (length b) t);
       fits = omega (arith, x .fits, length-sets m at b);
       held = all-snoc (Held size (sets m at b)) o new
           (all-map (λ y. Held size m y × (y .index ≢ k)) (Held size (sets m at b)) (held-other size k m b l) o (all-both (Held size m) (λ y. y .index ≢ k) o (x .held) notk))
@@ -399,16 +422,14 @@ comes-placed : (w : World) (size granted : ℕ) (on : Bool) (r : Run) (i : List 
     → cond on (arrivedWhole (paper size granted on r i o) b t fl) idle ≡ whole b t
     → Comes w (paper size granted on r i o) b t fl lends (placedOf (withRun (w .stream) (countedRun (w .stream .run))) (w .stream .run .accepted) (length b) t)
 unfolding placedOf
-comes-placed w size granted on r i o b t fl lends x s f e = go i (eqb (w .stream .queues .queued) 0) refl x s f e
+comes-placed w size granted on r i o b t fl lends x s f e =
+    subst (λ (l : List ℕ). Comes w (paper size granted on r i o) b t fl lends (placedIn (nextOf l) (withRun (w .stream) (countedRun (w .stream .run))) (w .stream .run .accepted) (length b) t))
+    (sym (x .holds .ins)) (go i x s f e)
   where
-    z : Bool → Arrived
-    z v = cond v (arrives-as arrivals.Dropped (withRun (w .stream) (droppedRun (countedRun (w .stream .run)))))
-        (arrives-as (arrivals.Stored (oldestIncoming (w .stream .queues)) (w .stream .run .accepted)) (storedStream w b t))
-
-    go : (i : List ℕ) (v : Bool) → eqb (w .stream .queues .queued) 0 ≡ v
-        → Tied w (paper size granted on r i o) → Sound (paper size granted on r i o) → Fits (paper size granted on r i o) (whole b t)
-        → cond on (arrivedWhole (paper size granted on r i o) b t fl) idle ≡ whole b t → Comes w (paper size granted on r i o) b t fl lends (z v)
-    go [] true g x s f e = record {
+    go : (i : List ℕ) → Tied w (paper size granted on r i o) → Sound (paper size granted on r i o) → Fits (paper size granted on r i o) (whole b t)
+        → cond on (arrivedWhole (paper size granted on r i o) b t fl) idle ≡ whole b t
+        → Comes w (paper size granted on r i o) b t fl lends (placedIn (nextOf i) (withRun (w .stream) (countedRun (w .stream .run))) (w .stream .run .accepted) (length b) t)
+    go [] x s f e = record {
       event = whole b t;
       tells = e;
       fits = f;
@@ -423,21 +444,14 @@ comes-placed w size granted on r i o b t fl lends x s f e = go i (eqb (w .stream
         held = x .held;
       };
     }
-    go [] false g x s f e = absurd (eqb-false (w .stream .queues .queued) 0 g (queued-is (w .stream .queues) granted [] (map entry o) (x .holds)))
-    go (k ∷ i) true g x s f e = absurd (omega (arith, eqb-true (w .stream .queues .queued) 0 g, queued-is (w .stream .queues) granted (k ∷ i) (map entry o) (x .holds)))
-    go (k ∷ i) false g x s f e =
-        let slot : sets (w .memory) (slotOffset k size) b ≡ sets (w .memory) (slotOffset (oldestIncoming (w .stream .queues)) (w .size)) b =
-        sym (ap (λ (j : ℕ). sets (w .memory) (slotOffset j (w .size)) b) (oldest-incoming (w .stream .queues) granted k i (map entry o) (x .holds))
-        ∙ ap (λ (n : ℕ). sets (w .memory) (slotOffset k n) b) (x .size)) in
-        let old : oldestIncoming (w .stream .queues) ≡ k = oldest-incoming (w .stream .queues) granted k i (map entry o) (x .holds) in
-        record {
-          event = whole b t;
-          tells = e;
-          fits = f;
-          foretold = ap (λ (j : ℕ). arrived (arrivals.Stored j (w .stream .run .accepted))) old ∙ ap (λ (q : Run). arrived (arrivals.Stored k (q .accepted))) (x .run);
-          tied = subst (λ (m : List ℕ). Tied (record { stream = storedStream w b t; size = w .size; memory = m }) (step (paper size granted on r (k ∷ i) o) (whole b t))) slot
-              (tied-stored w size granted on r k i o b t x s (f .2));
-        }
+    go (k ∷ i) x s f e = record {
+      event = whole b t;
+      tells = e;
+      fits = f;
+      foretold = ap (λ (n : ℕ). arrived (arrivals.Stored k n)) (number-is (w .stream .run) r (x .run) (s .limit));
+      tied = subst (λ (n : ℕ). Tied (record { stream = storedStream w b t; size = w .size; memory = sets (w .memory) (slotOffset k n) b }) (step (paper size granted on r (k ∷ i) o) (whole b t)))
+          (sym (x .size)) (tied-stored w size granted on r k i o b t x s (f .2));
+    }
 
 comes-accepted : (w : World) (p : Paper) (b : List ℕ) (t : Time) (fl : Bool) (lends : List ℕ) → Tied w p → Sound p → p .running ≡ true → p .run .accepted < runLimit
     → Comes w p b t fl lends (acceptedOf (withRun (w .stream) (countedRun (w .stream .run))) (w .stream .run .accepted) (length b) fl (w .size) t)

@@ -8,7 +8,7 @@ use Rattle.ioctl.specs.declared.refusals.Refusal.the-variants.{BuffersExist}
 use Rattle.buffers.specs.declared.Time.{Time}
 use Rattle.stream.specs.declared.Reply.{Reply}
 use Rattle.stream.specs.declared.Reply.the-variants.{Done, Refused}
-use Rattle.stream.specs.Stream.{Stream}
+use Rattle.buffers.specs.Stream.{Stream}
 use Rattle.stream.specs.Stream.{freshStream}
 use Rattle.stream.specs.Calls.{requestOf, enqueueOf, dequeueOf, startOf, stopOf}
 use Rattle.arrival.specs.declared.Arrival.{Arrival}

@@ -9,9 +9,9 @@ use Rattle.buffers.specs.declared.Time.{Time}
 use Rattle.buffers.specs.declared.Filled.{Filled}
 use Rattle.buffers.specs.Slot.{slotOffset}
 use Rattle.stream.specs.declared.Reply.the-variants.{Done, Returned}
-use Rattle.stream.specs.Stream.{Run}
+use Rattle.buffers.specs.Moves.{standingOf}
 use Rattle.arrival.specs.declared.Arrival.the-variants.{Stored}
-use Rattle.status.specs.Buffer.{flagsOf}
+use Rattle.status.specs.Buffer.{flagsFor}
 use Rattle.status.specs.Film.{verdictOf}
 use Rattle.status.specs.declared.Verdict.the-variants.{Running, Blank, Gaps, Complete}
 use Rattle.history.specs.Calls.{Call, World, opened, answer, next, after}
@@ -56,7 +56,7 @@ abbrev pub OnePlace : Type 0
 OnePlace = (size : ℕ) (m : List ℕ) (cs : List Call) (k : ℕ)
     → (timesIn (paperAfter size m cs) k + timesOut (paperAfter size m cs) k ≤ 1)
     × (paperAfter size m cs .granted ≤ k → timesIn (paperAfter size m cs) k + timesOut (paperAfter size m cs) k ≡ 0)
-    × (flagsOf (worldAfter size m cs .stream .queues) k ≡ 2 * timesIn (paperAfter size m cs) k + 4 * timesOut (paperAfter size m cs) k)
+    × (flagsFor (standingOf (worldAfter size m cs .stream .queues) k) ≡ 2 * timesIn (paperAfter size m cs) k + 4 * timesOut (paperAfter size m cs) k)
 
 -- ---- b. and c.: calls `before`, then buffer k handed in and accepted, then calls `mid` in which no stop and no buffer request is accepted
 

@@ -6,7 +6,7 @@ use lib.Dec.{leb}
 use lib.ListN.{length}
 use Rattle.buffers.specs.declared.Time.{Time}
 use Rattle.stream.specs.declared.Reply.{Reply}
-use Rattle.stream.specs.Stream.{Run}
+use Rattle.buffers.specs.Stream.{Run}
 use Rattle.stream.specs.Stream.{freshRun, stoppedRun}
 use Rattle.stream.specs.declared.Reply.the-variants as replies
 use Rattle.arrival.specs.declared.Arrival.{Arrival}

@@ -9,25 +9,25 @@ use Rattle.wire.proofs.Words.{length-bytesOf, word-of, word-same}
 use Rattle.format.specs.declared.Format.{Format}
 use Rattle.negotiation.specs.Answer.{pictureWords, formatReply}
 
-pub reply-length : (kind : ℕ) (s : List ℕ) (f : Format) → length (formatReply kind s f) ≡ 204
+pub reply-length : (kind : ℕ) (f : Format) (line size : ℕ) → length (formatReply kind f line size) ≡ 204
 unfolding formatReply pictureWords
-reply-length kind s f = simp (length-append, length-replicate, length-bytesOf)
+reply-length kind f line size = simp (length-append, length-replicate, length-bytesOf)
 
-eight-words : (s : List ℕ) (f : Format) → length (pictureWords s f) ≡ 8
+eight-words : (f : Format) (line size : ℕ) → length (pictureWords f line size) ≡ 8
 unfolding pictureWords
-eight-words s f = refl
+eight-words f line size = refl
 
 -- a word that fits 32 bits comes back
-pub reply-word : (kind : ℕ) (s : List ℕ) (f : Format) (k : ℕ) → k < 9 → getD (kind ∷ pictureWords s f) k 0 < 4294967296
-    → wordAt (formatReply kind s f) (4 * k) ≡ getD (kind ∷ pictureWords s f) k 0
+pub reply-word : (kind : ℕ) (f : Format) (line size : ℕ) (k : ℕ) → k < 9 → getD (kind ∷ pictureWords f line size) k 0 < 4294967296
+    → wordAt (formatReply kind f line size) (4 * k) ≡ getD (kind ∷ pictureWords f line size) k 0
 unfolding formatReply
-reply-word kind s f k h b =
+reply-word kind f line size k h b =
     word-same (bytesOf ws ++ replicate 168 0) (bytesOf ws) (4 * k) (4 * k)
     (λ i g. List·getD-append (bytesOf ws) (replicate 168 0) 0 (4 * k + i) (omega (arith, length-bytesOf ws, nine)))
     ∙ word-of ws k (omega (arith, nine)) b
   where
     ws : List ℕ
-    ws = kind ∷ pictureWords s f
+    ws = kind ∷ pictureWords f line size
 
     nine : length ws ≡ 9
-    nine = ap suc (eight-words s f)
+    nine = ap suc (eight-words f line size)

@@ -4,13 +4,10 @@ ghost use lib.Seq.{sets};
 ghost use Rattle.negotiation.specs.Answer.{formatReply};
 use format::Format;
 
-// The 204 bytes stored in the argument: type, picture format, zeros.
-pub fn put_format(argument: &mut [u8], kind: u32, s: &[u8], f: Format)
-    ensures { λ _. ⌜ now (argument .exit) ≡ sets (now (argument .entry)) 0 (formatReply kind (now (s .entry)) f) ⌝ }
+// The 204 bytes stored in the argument: type, picture format, zeros. Bytes per line and image size come in: whoever keeps them need not compute them again.
+pub fn put_format(argument: &mut [u8], kind: u32, f: Format, line: u32, size: u32)
+    ensures { λ _. ⌜ now (argument .exit) ≡ sets (now (argument .entry)) 0 (formatReply kind f line size) ⌝ }
 {
-    let alignment = geometry::line_alignment(s);
-    let line = format::bytes_per_line(f, alignment);
-    let size = format::image_size(f, alignment);
     let words = [
         kind,
         f.width,

@@ -20,17 +20,17 @@ unfoldable pub descriptionReply : List ℕ → ℕ → List ℕ
 descriptionReply s k = sets (sets (sets (replicate 64 0) 0 (bytesOf (k ∷ 1 ∷ []))) 12 (formatDescription s k)) 44 (le32 (formatCode s k))
 
 -- REQBUFS: count, type, memory, two reserved words
-unfoldable pub buffersReply : ℕ → List ℕ
-buffersReply count = bytesOf (count ∷ 1 ∷ 1 ∷ 0 ∷ 0 ∷ [])
+unfoldable pub buffersReply : ℕ → ℕ → List ℕ
+buffersReply kind count = bytesOf (count ∷ kind ∷ 1 ∷ 0 ∷ 0 ∷ [])
 
 -- QUERYBUF, QBUF, DQBUF: index, type, bytes used, flags, field none, time, no time code, number, memory, offset, length, the rest zero
-abbrev pub bufferWords : Status → List ℕ
-bufferWords b =
-    b .index ∷ 1 ∷ b .used ∷ b .flags ∷ 1 ∷ bits (b .time .seconds) ∷ bits (b .time .microseconds) ∷ 0 ∷ 0 ∷ 0 ∷ 0
+abbrev pub bufferWords : ℕ → Status → List ℕ
+bufferWords kind b =
+    b .index ∷ kind ∷ b .used ∷ b .flags ∷ 1 ∷ bits (b .time .seconds) ∷ bits (b .time .microseconds) ∷ 0 ∷ 0 ∷ 0 ∷ 0
     ∷ b .number ∷ 1 ∷ b .offset % 2 ^ 32 ∷ b .length % 2 ^ 32 ∷ 0 ∷ 0 ∷ []
 
-unfoldable pub bufferReply : Status → List ℕ
-bufferReply b = bytesOf (bufferWords b)
+unfoldable pub bufferReply : ℕ → Status → List ℕ
+bufferReply kind b = bytesOf (bufferWords kind b)
 
 -- QUERYCTRL: the 68 bytes of the sheet, which are laid out alike
 unfoldable pub controlReply : List ℕ → ℕ → List ℕ

@@ -7,7 +7,7 @@ ghost use Rattle.replies.specs.Replies.{controlReply, valueReply};
 pub fn put_control(argument: &mut [u8], sheet: &[u8], k: u32)
     ensures { λ _. ⌜ now (argument .exit) ≡ sets (now (argument .entry)) 0 (controlReply (now (sheet .entry)) k) ⌝ }
 {
-    wire::put_bytes(argument, 0, fields::control_record(sheet, k));
+    wire::put_part(argument, 0, sheet, fields::control_at(sheet, k), 68);
 }
 
 // G_CTRL and S_CTRL: the id and the 32 bits of the value.

@@ -25,25 +25,14 @@ pub fn put_crop(argument: &mut [u8], r: Rect)
     wire::put_words(argument, 0, &words);
 }
 
-// CROPCAP: bounds, default and pixel aspect of the sheet.
+// CROPCAP: bounds, default and pixel aspect. They stand together in the sheet, 28 bytes behind the start of its geometry and in the order of the answer, so that
+// they are copied as they are; where the sheet ends early the zeros stay.
 pub fn put_crop_capability(argument: &mut [u8], sheet: &[u8])
     ensures { λ _. ⌜ now (argument .exit) ≡ sets (now (argument .entry)) 0 (cropCapabilityReply (now (sheet .entry))) ⌝ }
 {
-    let b = rect_words(geometry::crop_bounds(sheet));
-    let d = rect_words(geometry::crop_default(sheet));
-    let aspect = geometry::pixel_aspect(sheet);
-    let words = [
-        1,
-        b[0],
-        b[1],
-        b[2],
-        b[3],
-        d[0],
-        d[1],
-        d[2],
-        d[3],
-        aspect.numerator,
-        aspect.denominator,
-    ];
-    wire::put_words(argument, 0, &words);
+    let at = fields::geometry_at(sheet);
+    let zeros = [0u8; 40];
+    wire::put_word(argument, 0, 1);
+    wire::put_bytes(argument, 4, &zeros);
+    wire::put_part(argument, 4, sheet, at + 28, 40);
 }

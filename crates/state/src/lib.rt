@@ -1,85 +1,109 @@
-// What a device keeps. The sheet's copy never changes and is lent to the functions that read it; the setup goes in by value and comes back
-// changed; the values of the controls and the numbers of the stream stand in arrays that are lent and changed in place. All of it is numbers,
-// so that a caller in C can hold it, and every value of it is answered.
+// What a device keeps. The sheet's copy never changes and is lent to the functions that read it; what requests choose, the values of the
+// controls and the numbers of the stream stand in arrays that are lent and changed in place. All of it is numbers, so that a caller in C
+// can hold it, and every value of it is answered.
 ghost use mathlib.Core.Path.{_≡_};
-ghost use mathlib.Core.List.{List};
-ghost use Prim.Native.Nat.{ℕ};
-ghost use Rattle.stream.specs.Stream.{Stream};
-ghost use Rattle.state.specs.State.{closedSetup, openingSetup, stateOf, frameSize};
-use buffers::Counts;
-use buffers::Entries;
-use buffers::Indices;
+ghost use Rattle.state.specs.Setup.{setupIn, closedSetup, openingSetup, changedFormat, changedCrop};
+use buffers::Words;
 use control::Values;
 use fields::Sheet;
 use format::Format;
 use geometry::Rect;
-use stream::Tally;
 
-// What is chosen by requests. `ready` is not 0 while the device is open.
-#[repr(C)]
-pub struct Setup {
-    pub ready: u32,
-    pub format: Format,
-    pub crop: Rect,
-}
+// What is chosen by requests: whether the device is open (not 0), the format's width, height and code, its line and its image size, the bits
+// of the crop's left, top, width and height.
+pub type SetupWords = [u32; 10];
 
-// A device: the copy of its sheet, its setup, the values of its controls, and its stream.
+pub const READY: usize = 0;
+
+pub const LINE: usize = 4;
+
+pub const SIZE: usize = 5;
+
+// A device: the copy of its sheet, its setup, the values of its controls, and its stream of pictures.
 #[repr(C)]
 pub struct Device {
     pub sheet: Sheet,
-    pub setup: Setup,
+    pub setup: SetupWords,
     pub values: Values,
-    pub tally: Tally,
-    pub counts: Counts,
-    pub incoming: Indices,
-    pub outgoing: Entries,
-}
-
-// What a request gives back, and the setup after it.
-pub struct Answered {
-    pub number: u32,
-    pub setup: Setup,
+    pub video: Words,
 }
 
 // A refused opening leaves a closed device: all numbers are 0.
-pub fn closed() -> Setup
-    ensures { λ r. ⌜ r ≡ closedSetup ⌝ }
+pub fn closed() -> SetupWords
+    ensures { λ r. ⌜ setupIn r ≡ closedSetup ⌝ }
 {
-    let format = Format {
-        width: 0,
-        height: 0,
-        code: 0,
-    };
-    let crop = Rect {
-        left: 0,
-        top: 0,
-        width: 0,
-        height: 0,
-    };
-    Setup {
-        ready: 0,
-        format,
-        crop,
-    }
+    [0; 10]
 }
 
 // After a good opening: first format, greatest size, default crop.
-pub fn opening(sheet: &[u8]) -> Setup
-    ensures { λ r. ⌜ r ≡ openingSetup (now (sheet .entry)) ⌝ }
+pub fn opening(sheet: &[u8]) -> SetupWords
+    ensures { λ r. ⌜ setupIn r ≡ openingSetup (now (sheet .entry)) ⌝ }
 {
-    let format = negotiation::at_opening(sheet);
-    let crop = geometry::crop_default(sheet);
-    Setup {
-        ready: 1,
-        format,
-        crop,
+    let f = negotiation::at_opening(sheet);
+    let alignment = geometry::line_alignment(sheet);
+    let line = format::bytes_per_line(f, alignment);
+    let size = format::image_size(f, alignment);
+    let c = geometry::crop_default(sheet);
+    [
+        1,
+        f.width,
+        f.height,
+        f.code,
+        line,
+        size,
+        wire::as_bits(c.left),
+        wire::as_bits(c.top),
+        wire::as_bits(c.width),
+        wire::as_bits(c.height),
+    ]
+}
+
+// The present format.
+pub fn format_in(w: &SetupWords) -> Format
+    ensures { λ r. ⌜ r ≡ setupIn (now (w .entry)) .format ⌝ }
+{
+    Format {
+        width: w[1],
+        height: w[2],
+        code: w[3],
     }
 }
 
-// The image size of the present format.
-pub fn frame_size(sheet: &[u8], s: Setup) -> u32
-    ensures { λ r. ⌜ ((v : List ℕ) (t : Stream) → r ≡ frameSize (now (sheet .entry)) (stateOf s v t)) ⌝ }
+// The present crop.
+pub fn crop_in(w: &SetupWords) -> Rect
+    ensures { λ r. ⌜ r ≡ setupIn (now (w .entry)) .crop ⌝ }
 {
-    let f = s.format;
-    format::image_size(f, geometry::line_alignment(sheet))
+    Rect {
+        left: wire::as_signed(w[6]),
+        top: wire::as_signed(w[7]),
+        width: wire::as_signed(w[8]),
+        height: wire::as_signed(w[9]),
+    }
+}
+
+// Another format, with its line and image size. The words are lent as a slice, `_words`, so that the proof knows how many they are.
+pub fn keep_format(w: &mut SetupWords, f: Format, line: u32, size: u32)
+    ensures { λ _. ⌜ setupIn (now (w .exit)) ≡ changedFormat (setupIn (now (w .entry))) f line size ⌝ }
+{
+    let _words: &[u32] = w;
+    w[1] = f.width;
+    w[2] = f.height;
+    w[3] = f.code;
+    w[LINE] = line;
+    w[SIZE] = size;
+}
+
+// Another crop.
+pub fn keep_crop(w: &mut SetupWords, r: Rect)
+    ensures { λ _. ⌜ setupIn (now (w .exit)) ≡ changedCrop (setupIn (now (w .entry))) r ⌝ }
+{
+    let left = wire::as_bits(r.left);
+    let top = wire::as_bits(r.top);
+    let width = wire::as_bits(r.width);
+    let height = wire::as_bits(r.height);
+    let _words: &[u32] = w;
+    w[6] = left;
+    w[7] = top;
+    w[8] = width;
+    w[9] = height;
 }

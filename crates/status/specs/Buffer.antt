@@ -1,29 +1,42 @@
 -- The status of a buffer, as QUERYBUF, QBUF and DQBUF tell it.
 use Prim.Native.Nat.{ℕ}
-use mathlib.Core.Bool.{cond}
+use mathlib.Core.Bool.{Bool, cond}
 use lib.Dec.{leb}
 use Rattle.ioctl.specs.declared.refusals.Refusal.the-variants.{NoSuchIndex}
 use Rattle.buffers.specs.declared.Filled.{Filled}
-use Rattle.buffers.specs.Queues.{Queues}
+use Rattle.buffers.specs.declared.Standing.{Standing}
+use Rattle.buffers.specs.declared.Standing.the-variants.{Dequeued, Incoming, Outgoing}
 use Rattle.buffers.specs.Slot.{slotSize, slotOffset}
-use Rattle.buffers.specs.Queues.{isIncoming, isOutgoing, entryOf}
-use Rattle.stream.specs.Stream.{Stream}
+use Rattle.buffers.specs.Stream.{Stream}
+use Rattle.buffers.specs.Moves.{noFrame, standingOf}
 use Rattle.status.specs.declared.Status.{Status}
 use Rattle.status.specs.declared.Queried.{Queried}
 use Rattle.status.specs.declared.Queried.the-variants.{Buffer, Refused}
 
 -- flag 4 if outgoing, 2 if incoming, none if dequeued
-unfoldable pub flagsOf : Queues → ℕ → ℕ
-flagsOf q k = cond (isOutgoing q k) 4 (cond (isIncoming q k) 2 0)
+abbrev pub flagsFor : Standing → ℕ
+flagsFor Dequeued = 0
+flagsFor Incoming = 2
+flagsFor (Outgoing f) = 4
+
+-- the frame in it, zeros unless it is outgoing
+abbrev pub frameFor : Standing → Filled
+frameFor Dequeued = noFrame
+frameFor Incoming = noFrame
+frameFor (Outgoing f) = f
 
 -- buffer k starts at k slots and is a slot long; bytes used, time and number are those of the frame in it
 unfoldable pub describedOf : ℕ → ℕ → Filled → ℕ → Status
 describedOf k flags f size =
     record { index = k; used = f .used; flags = flags; number = f .number; offset = slotOffset k size; length = slotSize size; time = f .time }
 
--- QUERYBUF and QBUF: bytes used, time and number are zero unless it is outgoing
+-- QUERYBUF and QBUF
 unfoldable pub statusOf : Stream → ℕ → ℕ → Status
-statusOf s k size = describedOf k (flagsOf (s .queues) k) (entryOf (s .queues) k) size
+statusOf s k size = describedOf k (flagsFor (standingOf (s .queues) k)) (frameFor (standingOf (s .queues) k)) size
+
+-- of a buffer that QBUF took: it waits then, unless the line was full
+unfoldable pub queuedOf : ℕ → Bool → ℕ → Status
+queuedOf k room size = describedOf k (flagsFor (cond room Incoming Dequeued)) noFrame size
 
 -- of a buffer that is there
 unfoldable pub queryOf : Stream → ℕ → ℕ → Queried
@@ -31,4 +44,4 @@ queryOf s k size = cond (leb (s .queues .granted) k) (Refused NoSuchIndex) (Buff
 
 -- DQBUF: the entry handed over, now in neither queue
 unfoldable pub returnedOf : Filled → ℕ → Status
-returnedOf f size = describedOf (f .index) 0 f size
+returnedOf f size = describedOf (f .index) (flagsFor Dequeued) f size

@@ -2,8 +2,7 @@
 use Prim.Native.Nat.{ℕ}
 use mathlib.Core.Bool.{cond}
 use lib.Dec.{eqb}
-use Rattle.stream.specs.Stream.{Stream}
-use Rattle.stream.specs.Stream.{Run}
+use Rattle.buffers.specs.Stream.{Run, Stream}
 use Rattle.stream.specs.Stream.{streaming}
 use Rattle.status.specs.declared.Verdict.{Verdict}
 use Rattle.status.specs.declared.Verdict.the-variants.{Running, Blank, Gaps, Complete}

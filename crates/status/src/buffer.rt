@@ -1,44 +1,48 @@
 // The status of a buffer.
 ghost use mathlib.Core.Path.{_≡_};
-ghost use mathlib.Core.Bool.{cond};
-ghost use mathlib.Core.List.{List};
-ghost use Prim.Native.Nat.{ℕ};
-ghost use Rattle.buffers.specs.Queues.{entriesOf};
-ghost use Rattle.stream.specs.Stream.{streamOf};
-ghost use Rattle.status.specs.Buffer.{describedOf, statusOf, queryOf, returnedOf};
+ghost use Rattle.buffers.specs.Words.{streamIn};
+ghost use Rattle.status.specs.Buffer.{flagsFor, frameFor, describedOf, statusOf, queuedOf, queryOf, returnedOf};
 use crate::Queried;
 use crate::Status;
-use buffers::Counts;
-use buffers::Entries;
 use buffers::Filled;
-use buffers::Indices;
+use buffers::Standing;
+use buffers::Words;
 use ioctl::Refusal;
 
-// Which queue a buffer is in: 4 the outgoing one, 2 the incoming one, 0 neither.
-fn flags(outgoing: bool, incoming: bool) -> u32
-    ensures { λ r. ⌜ r ≡ cond outgoing 4 (cond incoming 2 0) ⌝ }
+// Its flags.
+fn flags(st: Standing) -> u32
+    ensures { λ r. ⌜ r ≡ flagsFor st ⌝ }
 {
-    if outgoing {
-        return 4;
+    match st {
+        Standing::Dequeued => 0,
+        Standing::Incoming => 2,
+        Standing::Outgoing(_) => 4,
     }
-    if incoming {
-        return 2;
-    }
-    0
 }
 
-// Buffer k with these flags, and the frame of this entry in it.
-fn described(k: u32, flags: u32, entry: Filled, size: u32) -> Status
-    ensures { λ r. ⌜ r ≡ describedOf k flags entry size ⌝ }
+// The frame in it.
+fn held(st: Standing) -> Filled
+    ensures { λ r. ⌜ r ≡ frameFor st ⌝ }
 {
-    let time = entry.time;
+    match st {
+        Standing::Dequeued => buffers::no_frame(),
+        Standing::Incoming => buffers::no_frame(),
+        Standing::Outgoing(f) => f,
+    }
+}
+
+// Buffer k with these flags, and this frame in it.
+fn described(k: u32, flags: u32, f: Filled, size: u32) -> Status
+    ensures { λ r. ⌜ r ≡ describedOf k flags f size ⌝ }
+{
+    let time = f.time;
     let offset = buffers::slot_offset(k, size);
     let length = buffers::slot_size(size);
     Status {
         index: k,
-        used: entry.used,
+        used: f.used,
         flags,
-        number: entry.number,
+        number: f.number,
         offset,
         length,
         time,
@@ -46,35 +50,38 @@ fn described(k: u32, flags: u32, entry: Filled, size: u32) -> Status
 }
 
 // Buffer k, while frames have this size.
-pub fn of_buffer(
-    counts: &Counts,
-    incoming: &Indices,
-    outgoing: &Entries,
-    k: u32,
-    size: u32,
-) -> Status
-    ensures { λ r. ⌜ ((e : List ℕ) → r ≡ statusOf (streamOf e (now (counts .entry)) (now (incoming .entry)) (entriesOf 32 (now (outgoing .entry)))) k size) ⌝ }
+pub fn of_buffer(s: &Words, k: u32, size: u32) -> Status
+    ensures { λ r. ⌜ r ≡ statusOf (streamIn (now (s .entry))) k size ⌝ }
 {
-    let out = buffers::find_outgoing(counts, outgoing, k);
-    let entry = out.entry;
-    let waits = buffers::is_incoming(counts, incoming, k);
-    described(k, flags(out.present, waits), entry, size)
+    let st = buffers::standing_of(s, k);
+    described(k, flags(st), held(st), size)
+}
+
+// The status of a buffer that was just taken in, into a line that had room or not. It need not be looked for.
+pub fn queued(k: u32, room: bool, size: u32) -> Status
+    ensures { λ r. ⌜ r ≡ queuedOf k room size ⌝ }
+{
+    let none = buffers::no_frame();
+    if room {
+        return described(k, 2, none, size);
+    }
+    described(k, 0, none, size)
 }
 
 // The status of buffer k, if there is one.
-pub fn query(counts: &Counts, incoming: &Indices, outgoing: &Entries, k: u32, size: u32) -> Queried
-    ensures { λ r. ⌜ ((e : List ℕ) → r ≡ queryOf (streamOf e (now (counts .entry)) (now (incoming .entry)) (entriesOf 32 (now (outgoing .entry)))) k size) ⌝ }
+pub fn query(s: &Words, k: u32, size: u32) -> Queried
+    ensures { λ r. ⌜ r ≡ queryOf (streamIn (now (s .entry))) k size ⌝ }
 {
-    if counts[buffers::GRANTED] <= k {
+    if s[buffers::GRANTED] <= k as u64 {
         return Queried::Refused(Refusal::NoSuchIndex);
     }
-    let status = of_buffer(counts, incoming, outgoing, k, size);
+    let status = of_buffer(s, k, size);
     Queried::Buffer(status)
 }
 
-// The status of a buffer that is handed over with this entry.
-pub fn returned(entry: Filled, size: u32) -> Status
-    ensures { λ r. ⌜ r ≡ returnedOf entry size ⌝ }
+// The status of a buffer that is handed over with this frame.
+pub fn returned(f: Filled, size: u32) -> Status
+    ensures { λ r. ⌜ r ≡ returnedOf f size ⌝ }
 {
-    described(entry.index, 0, entry, size)
+    described(f.index, 0, f, size)
 }

@@ -4,11 +4,14 @@ use mathlib.Core.Bool.{cond, not, _&&_, _||_}
 use lib.Dec.{eqb, leb}
 use Rattle.ioctl.specs.declared.refusals.Refusal.{Refusal}
 use Rattle.ioctl.specs.declared.refusals.Refusal.the-variants.{NoSuchIndex, NotDequeued, NoBuffers, Streaming, NothingOutgoing}
+use Rattle.buffers.specs.declared.Oldest.{Oldest}
+use Rattle.buffers.specs.declared.Oldest.the-variants.{Empty, Frame}
 use Rattle.buffers.specs.Slot.{slotSize}
-use Rattle.buffers.specs.Queues.{isIncoming, isOutgoing, oldestOutgoing, pushed, popped}
+use Rattle.buffers.specs.Stream.{Stream, onQueues}
+use Rattle.buffers.specs.Moves.{isIncoming, isOutgoing, oldestOf, pushed, popped}
 use Rattle.stream.specs.declared.Reply.{Reply}
 use Rattle.stream.specs.declared.Reply.the-variants.{Done, Granted, Returned, Refused}
-use Rattle.stream.specs.Stream.{Stream, streaming, withQueues, started, stopped, handedRun}
+use Rattle.stream.specs.Stream.{streaming, started, stopped, handedRun}
 
 -- the answer to a call, and the stream after it
 pub record Step : Type 0 where
@@ -37,15 +40,16 @@ unfoldable pub enqueueOf : Stream → ℕ → Step
 enqueueOf s k =
     cond (leb (s .queues .granted) k) (refuses NoSuchIndex s)
     (cond (isIncoming (s .queues) k || isOutgoing (s .queues) k) (refuses NotDequeued s)
-    (answers Done (withQueues s (pushed (s .queues) k))))
+    (answers Done (onQueues (λ q. pushed q k) s)))
 
--- DQBUF: the oldest outgoing buffer is handed over
+-- the oldest frame held is handed over
+abbrev pub handedOver : Oldest → Stream → Step
+handedOver Empty s = refuses NothingOutgoing s
+handedOver (Frame f) s = answers (Returned f) (record { length = s .length; streaming = s .streaming; run = handedRun (s .run); queues = popped (s .queues) })
+
+-- DQBUF: with buffers, and a frame held
 unfoldable pub dequeueOf : Stream → Step
-dequeueOf s =
-    cond (eqb (s .queues .granted) 0) (refuses NoBuffers s)
-    (cond (eqb (s .queues .done) 0) (refuses NothingOutgoing s)
-    (answers (Returned (oldestOutgoing (s .queues)))
-    (record { length = s .length; streaming = s .streaming; run = handedRun (s .run); queues = popped (s .queues) })))
+dequeueOf s = cond (eqb (s .queues .granted) 0) (refuses NoBuffers s) (handedOver (oldestOf (s .queues .outgoing)) s)
 
 -- STREAMON: with buffers; while streaming it changes nothing
 unfoldable pub startOf : Stream → Step

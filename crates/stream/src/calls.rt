@@ -1,23 +1,16 @@
-// The calls that a client makes on a stream, each with its refusals in the order of the checks. An array is lent
-// as a slice, `_words`, where the proof has to know how many elements it has: of an array behind a reference only such a loan tells.
+// The calls that a client makes on a stream, each with its refusals in the order of the checks.
 ghost use mathlib.Core.Path.{_≡_};
-ghost use mathlib.Core.List.{List};
-ghost use Prim.Native.Nat.{ℕ, min};
-ghost use Rattle.buffers.specs.declared.Filled.{Filled};
-ghost use Rattle.buffers.specs.Queues.{entriesOf};
-ghost use Rattle.stream.specs.Stream.{streamOf};
+ghost use Prim.Native.Nat.{min};
+ghost use Rattle.buffers.specs.Words.{streamIn};
 ghost use Rattle.stream.specs.Calls.{answers, grantOf, requestOf, enqueueOf, dequeueOf, startOf, stopOf};
-use crate::HANDED;
-use crate::LENGTH;
 use crate::Reply;
-use crate::STREAMING;
-use crate::Tally;
 use crate::run;
-use buffers::Counts;
-use buffers::DONE;
-use buffers::Entries;
 use buffers::GRANTED;
-use buffers::Indices;
+use buffers::HANDED;
+use buffers::LENGTH;
+use buffers::Oldest;
+use buffers::STREAMING;
+use buffers::Words;
 use ioctl::Refusal;
 
 fn least(a: u64, b: u64) -> u64
@@ -38,70 +31,66 @@ fn grant(length: u64, count: u32, size: u32) -> u32
 }
 
 // Buffers are asked for. All there were go first, and so does a run; while one is on, only a count of 0 is taken.
-pub fn request_buffers(tally: &mut Tally, counts: &mut Counts, count: u32, size: u32) -> Reply
-    ensures { λ r. ⌜ ((i : List ℕ) (o : List Filled) → answers r (streamOf (now (tally .exit)) (now (counts .exit)) i o) ≡ requestOf (streamOf (now (tally .entry)) (now (counts .entry)) i o) count size) ⌝ }
+pub fn request_buffers(s: &mut Words, count: u32, size: u32) -> Reply
+    ensures { λ r. ⌜ answers r (streamIn (now (s .exit))) ≡ requestOf (streamIn (now (s .entry))) count size ⌝ }
 {
-    if (tally[STREAMING] != 0) & (count != 0) {
+    if (s[STREAMING] != 0) & (count != 0) {
         return Reply::Refused(Refusal::Streaming);
     }
-    let n = grant(tally[LENGTH], count, size);
-    run::end(tally, counts, n);
+    let n = grant(s[LENGTH], count, size);
+    run::end(s, n as u64);
     Reply::Granted(n)
 }
 
 // Buffer k is handed in.
-pub fn enqueue(counts: &mut Counts, incoming: &mut Indices, outgoing: &Entries, k: u32) -> Reply
-    ensures { λ r. ⌜ ((e : List ℕ) → answers r (streamOf e (now (counts .exit)) (now (incoming .exit)) (entriesOf 32 (now (outgoing .entry))))
-        ≡ enqueueOf (streamOf e (now (counts .entry)) (now (incoming .entry)) (entriesOf 32 (now (outgoing .entry)))) k) ⌝ }
+pub fn enqueue(s: &mut Words, k: u32) -> Reply
+    ensures { λ r. ⌜ answers r (streamIn (now (s .exit))) ≡ enqueueOf (streamIn (now (s .entry))) k ⌝ }
 {
-    if counts[GRANTED] <= k {
+    if s[GRANTED] <= k as u64 {
         return Reply::Refused(Refusal::NoSuchIndex);
     }
-    let out = buffers::find_outgoing(counts, outgoing, k);
-    if buffers::is_incoming(counts, incoming, k) | out.present {
+    if buffers::in_line(s, k) {
         return Reply::Refused(Refusal::NotDequeued);
     }
-    buffers::push_incoming(counts, incoming, k);
+    buffers::push(s, k);
     Reply::Done
 }
 
 // The oldest filled buffer is handed over.
-pub fn dequeue(tally: &mut Tally, counts: &mut Counts, outgoing: &mut Entries) -> Reply
-    ensures { λ r. ⌜ ((i : List ℕ) → answers r (streamOf (now (tally .exit)) (now (counts .exit)) i (entriesOf 32 (now (outgoing .exit))))
-        ≡ dequeueOf (streamOf (now (tally .entry)) (now (counts .entry)) i (entriesOf 32 (now (outgoing .entry))))) ⌝ }
+pub fn dequeue(s: &mut Words) -> Reply
+    ensures { λ r. ⌜ answers r (streamIn (now (s .exit))) ≡ dequeueOf (streamIn (now (s .entry))) ⌝ }
 {
-    if counts[GRANTED] == 0 {
+    if s[GRANTED] == 0 {
         return Reply::Refused(Refusal::NoBuffers);
     }
-    if counts[DONE] == 0 {
+    let Oldest::Frame(f) = buffers::oldest_outgoing(s) else {
         return Reply::Refused(Refusal::NothingOutgoing);
-    }
-    let _words: &[u64] = tally;
-    let entry = buffers::oldest_outgoing(outgoing);
-    buffers::pop_outgoing(counts, outgoing);
-    tally[HANDED] = std::num::wrapping_add_u64(tally[HANDED], 1);
-    Reply::Returned(entry)
+    };
+    buffers::pop(s);
+    let _words: &[u64] = s;
+    s[HANDED] = std::num::wrapping_add_u64(s[HANDED], 1);
+    Reply::Returned(f)
 }
 
 // A run begins, unless one is on.
-pub fn start(tally: &mut Tally, counts: &Counts) -> Reply
-    ensures { λ r. ⌜ ((i : List ℕ) (o : List Filled) → answers r (streamOf (now (tally .exit)) (now (counts .entry)) i o) ≡ startOf (streamOf (now (tally .entry)) (now (counts .entry)) i o)) ⌝ }
+pub fn start(s: &mut Words) -> Reply
+    ensures { λ r. ⌜ answers r (streamIn (now (s .exit))) ≡ startOf (streamIn (now (s .entry))) ⌝ }
 {
-    if counts[GRANTED] == 0 {
+    if s[GRANTED] == 0 {
         return Reply::Refused(Refusal::NoBuffers);
     }
-    if tally[STREAMING] != 0 {
+    if s[STREAMING] != 0 {
         return Reply::Done;
     }
-    run::begin(tally);
+    run::begin(s);
     Reply::Done
 }
 
 // The run ends, if one is on; both queues are emptied in any case.
-pub fn stop(tally: &mut Tally, counts: &mut Counts) -> Reply
-    ensures { λ r. ⌜ ((i : List ℕ) (o : List Filled) → answers r (streamOf (now (tally .exit)) (now (counts .exit)) i o) ≡ stopOf (streamOf (now (tally .entry)) (now (counts .entry)) i o)) ⌝ }
+pub fn stop(s: &mut Words) -> Reply
+    ensures { λ r. ⌜ answers r (streamIn (now (s .exit))) ≡ stopOf (streamIn (now (s .entry))) ⌝ }
 {
-    let granted = counts[GRANTED];
-    run::end(tally, counts, granted);
+    let granted = s[GRANTED];
+    run::end(s, granted);
     Reply::Done
 }

@@ -2,36 +2,20 @@
 ghost use mathlib.Core.Path.{_≡_};
 ghost use mathlib.Core.List.{List};
 ghost use Prim.Native.Nat.{ℕ};
-ghost use Rattle.buffers.specs.declared.Filled.{Filled};
-ghost use Rattle.stream.specs.Stream.{streamOf};
-ghost use Rattle.state.specs.declared.Setup.{Setup};
-ghost use Rattle.state.specs.State.{stateOf};
-ghost use Rattle.state.specs.Answers.{answer};
-ghost use Rattle.streaming.specs.Streaming.{streamonOf, streamoffOf};
-use buffers::Counts;
-use ioctl::Refusal;
-use stream::Tally;
+ghost use Rattle.buffers.specs.Words.{streamIn};
+ghost use Rattle.streaming.specs.Streaming.{streamAnswer, streamonOf, streamoffOf};
+use buffers::Words;
 
 // A run begins.
-pub fn streamon(tally: &mut Tally, counts: &Counts, argument: &[u8]) -> u32
-    ensures { λ r. ⌜ ((s : Setup) (v i : List ℕ) (o : List Filled) → answer r (stateOf s v (streamOf (now (tally .exit)) (now (counts .entry)) i o)) (now (argument .entry))
-        ≡ streamonOf (stateOf s v (streamOf (now (tally .entry)) (now (counts .entry)) i o)) (now (argument .entry))) ⌝ }
+pub fn streamon(s: &mut Words) -> u32
+    ensures { λ r. ⌜ ((kind size : ℕ) (a : List ℕ) → streamAnswer r (streamIn (now (s .exit))) a ≡ streamonOf (streamIn (now (s .entry))) kind size a) ⌝ }
 {
-    if wire::word_at(argument, 0) != 1 {
-        return ioctl::errno(Refusal::WrongType);
-    }
-    let reply = stream::start(tally, counts);
-    stream::reply_number(reply)
+    stream::reply_number(stream::start(s))
 }
 
 // The run ends, if one is on, and the queues are emptied.
-pub fn streamoff(tally: &mut Tally, counts: &mut Counts, argument: &[u8]) -> u32
-    ensures { λ r. ⌜ ((s : Setup) (v i : List ℕ) (o : List Filled) → answer r (stateOf s v (streamOf (now (tally .exit)) (now (counts .exit)) i o)) (now (argument .entry))
-        ≡ streamoffOf (stateOf s v (streamOf (now (tally .entry)) (now (counts .entry)) i o)) (now (argument .entry))) ⌝ }
+pub fn streamoff(s: &mut Words) -> u32
+    ensures { λ r. ⌜ ((kind size : ℕ) (a : List ℕ) → streamAnswer r (streamIn (now (s .exit))) a ≡ streamoffOf (streamIn (now (s .entry))) kind size a) ⌝ }
 {
-    if wire::word_at(argument, 0) != 1 {
-        return ioctl::errno(Refusal::WrongType);
-    }
-    let reply = stream::stop(tally, counts);
-    stream::reply_number(reply)
+    stream::reply_number(stream::stop(s))
 }

@@ -67,25 +67,11 @@ fn arrive(w: Scene, memory: &mut [u8], c: u8, time: Time) -> Scene {
     let n = length(c, w.size);
     frame::fill(&mut space, n, w.arrivals);
     let bytes = wire::part(&space, 0, n as usize);
-    let s = w.stream;
-    let mut tally = s.tally;
-    let mut counts = s.counts;
-    let mut incoming = s.incoming;
-    let mut outgoing = s.outgoing;
+    let mut s = w.stream;
     let whole = is_whole(c, bytes.len() as u64, w.size, time);
-    let a = arrival::arrive(
-        &mut tally,
-        &mut counts,
-        &mut incoming,
-        &mut outgoing,
-        memory,
-        bytes,
-        whole,
-        w.size,
-        time,
-    );
+    let a = arrival::arrive(&mut s, memory, bytes, whole, w.size, time);
     answer(a);
-    scene::with(w, tally, counts, incoming, outgoing)
+    scene::with(w, s)
 }
 
 // The next frame arrives.

@@ -40,63 +40,43 @@ fn reply(r: Reply, size: u32, memory: &[u8]) {
 }
 
 pub(crate) fn request(w: Scene, count: u32, memory: &[u8]) -> Scene {
-    let s = w.stream;
-    let outgoing = s.outgoing;
-    let incoming = s.incoming;
-    let mut tally = s.tally;
-    let mut counts = s.counts;
+    let mut s = w.stream;
     say::number(b" REQBUFS ", count);
-    let answer = stream::request_buffers(&mut tally, &mut counts, count, w.size);
+    let answer = stream::request_buffers(&mut s, count, w.size);
     reply(answer, w.size, memory);
-    scene::with(w, tally, counts, incoming, outgoing)
+    scene::with(w, s)
 }
 
 pub(crate) fn enqueue(w: Scene, k: u32, memory: &[u8]) -> Scene {
-    let s = w.stream;
-    let tally = s.tally;
-    let mut counts = s.counts;
-    let mut incoming = s.incoming;
-    let outgoing = s.outgoing;
+    let mut s = w.stream;
     say::number(b" QBUF ", k);
-    let answer = stream::enqueue(&mut counts, &mut incoming, &outgoing, k);
+    let answer = stream::enqueue(&mut s, k);
     reply(answer, w.size, memory);
-    scene::with(w, tally, counts, incoming, outgoing)
+    scene::with(w, s)
 }
 
 pub(crate) fn dequeue(w: Scene, memory: &[u8]) -> Scene {
-    let s = w.stream;
-    let incoming = s.incoming;
-    let mut tally = s.tally;
-    let mut counts = s.counts;
-    let mut outgoing = s.outgoing;
+    let mut s = w.stream;
     say::text(b" DQBUF");
-    let answer = stream::dequeue(&mut tally, &mut counts, &mut outgoing);
+    let answer = stream::dequeue(&mut s);
     reply(answer, w.size, memory);
-    scene::with(w, tally, counts, incoming, outgoing)
+    scene::with(w, s)
 }
 
 pub(crate) fn start(w: Scene, memory: &[u8]) -> Scene {
-    let s = w.stream;
-    let outgoing = s.outgoing;
-    let incoming = s.incoming;
-    let mut tally = s.tally;
-    let counts = s.counts;
+    let mut s = w.stream;
     say::text(b" STREAMON");
-    let answer = stream::start(&mut tally, &counts);
+    let answer = stream::start(&mut s);
     reply(answer, w.size, memory);
-    scene::with(w, tally, counts, incoming, outgoing)
+    scene::with(w, s)
 }
 
 pub(crate) fn stop(w: Scene, memory: &[u8]) -> Scene {
-    let s = w.stream;
-    let outgoing = s.outgoing;
-    let incoming = s.incoming;
-    let mut tally = s.tally;
-    let mut counts = s.counts;
+    let mut s = w.stream;
     say::text(b" STREAMOFF");
-    let answer = stream::stop(&mut tally, &mut counts);
+    let answer = stream::stop(&mut s);
     reply(answer, w.size, memory);
-    scene::with(w, tally, counts, incoming, outgoing)
+    scene::with(w, s)
 }
 
 fn described(status: Status) {
@@ -112,11 +92,8 @@ fn described(status: Status) {
 
 pub(crate) fn query(w: Scene, k: u32) -> Scene {
     let s = w.stream;
-    let counts = s.counts;
-    let incoming = s.incoming;
-    let outgoing = s.outgoing;
     say::number(b" QUERYBUF ", k);
-    let q = status::query(&counts, &incoming, &outgoing, k, w.size);
+    let q = status::query(&s, k, w.size);
     match q {
         Queried::Buffer(status) => described(status),
         Queried::Refused(why) => say::last(b": ", ioctl::errno(why)),
@@ -127,20 +104,18 @@ pub(crate) fn query(w: Scene, k: u32) -> Scene {
 // What became of the arrivals of the last run.
 pub(crate) fn record(w: Scene) -> Scene {
     let s = w.stream;
-    let tally = s.tally;
-    say::long(b" record: accepted ", tally[stream::ACCEPTED]);
-    say::long(b" handed ", tally[stream::HANDED]);
-    say::long(b" damaged ", tally[stream::DAMAGED]);
-    say::long(b" dropped ", tally[stream::DROPPED]);
-    say::long(b" discarded ", tally[stream::DISCARDED]);
+    say::long(b" record: accepted ", s[buffers::ACCEPTED]);
+    say::long(b" handed ", s[buffers::HANDED]);
+    say::long(b" damaged ", s[buffers::DAMAGED]);
+    say::long(b" dropped ", s[buffers::DROPPED]);
+    say::long(b" discarded ", s[buffers::DISCARDED]);
     say::text(b";");
     w
 }
 
 pub(crate) fn verdict(w: Scene) -> Scene {
     let s = w.stream;
-    let tally = s.tally;
-    let v = status::film_verdict(&tally);
+    let v = status::film_verdict(&s);
     match v {
         Verdict::Running => say::text(b" verdict: RUNNING;"),
         Verdict::Blank => say::text(b" verdict: BLANK;"),

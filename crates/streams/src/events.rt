@@ -40,14 +40,10 @@ fn clocked(w: Scene, second: u32) -> Scene {
 }
 
 fn near_limit(w: Scene) -> Scene {
-    let s = w.stream;
-    let outgoing = s.outgoing;
-    let incoming = s.incoming;
-    let counts = s.counts;
-    let mut tally = s.tally;
-    tally[stream::ACCEPTED] = 4294967293;
+    let mut s = w.stream;
+    s[buffers::ACCEPTED] = 4294967293;
     say::text(b" accepted 4294967293;");
-    scene::with(w, tally, counts, incoming, outgoing)
+    scene::with(w, s)
 }
 
 fn setting(w: Scene, c: u8, n: u32) -> Scene {

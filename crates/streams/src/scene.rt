@@ -1,19 +1,8 @@
 // What a list of events goes through: the stream, what the next arrival depends on, and how far the list is read.
-use buffers::Counts;
-use buffers::Entries;
-use buffers::Indices;
-use stream::Tally;
-
-// The arrays of a stream.
-pub(crate) struct Stream {
-    pub(crate) tally: Tally,
-    pub(crate) counts: Counts,
-    pub(crate) incoming: Indices,
-    pub(crate) outgoing: Entries,
-}
+use buffers::Words;
 
 pub(crate) struct Scene {
-    pub(crate) stream: Stream,
+    pub(crate) stream: Words,
     pub(crate) size: u32,
     pub(crate) clock: u32,
     pub(crate) arrivals: u32,
@@ -23,12 +12,7 @@ pub(crate) struct Scene {
 
 // A stream just opened, frames of 64 bytes, five seconds on the clock, no arrival yet, and the title of a list to come.
 pub(crate) fn opened(length: u64) -> Scene {
-    let stream = Stream {
-        tally: [length, 0, 0, 0, 0, 0, 0, 0],
-        counts: [0; 3],
-        incoming: [0; 32],
-        outgoing: [0; 160],
-    };
+    let stream = stream::fresh(length);
     Scene {
         stream,
         size: 64,
@@ -39,20 +23,8 @@ pub(crate) fn opened(length: u64) -> Scene {
     }
 }
 
-// The same with other arrays.
-pub(crate) fn with(
-    w: Scene,
-    tally: Tally,
-    counts: Counts,
-    incoming: Indices,
-    outgoing: Entries,
-) -> Scene {
-    let stream = Stream {
-        tally,
-        counts,
-        incoming,
-        outgoing,
-    };
+// The same with another stream.
+pub(crate) fn with(w: Scene, stream: Words) -> Scene {
     let mut next = w;
     next.stream = stream;
     next

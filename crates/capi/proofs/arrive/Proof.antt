@@ -1,5 +1,5 @@
--- The answer of the device, in numbers; the time from its bits. Assumes nothing.
-use mathlib.Core.Path.{ap, _∙_}
+-- The time from its bits, then what the device promises; the answer as its numbers. Assumes nothing.
+use mathlib.Core.Path.{_∙_, ap}
 use Rattle.arrival.specs.Answer.{toldOf}
 use Rattle.device.specs.Film.{Taken}
 use borrow.Author.Needs.{needs}
@@ -20,7 +20,7 @@ same-length c = search needs
 
 returns : tie.Need-returns
 returns c v =
-    let t = c .before .before .before .before .before .before .before .before .before .time-of .ensures in
+    let t = c .before .before .before .before .before .before .time-of .ensures in
     let e = c .before .before .before .arrive .ensures v in
     (rw (← t) (c .answer-numbers .ensures ∙ ap (λ (z : Taken). toldOf (z .arrival)) (e .0)), rw (← t) (ap (λ (z : Taken). z .state) (e .0)), rw (← t) (e .1))
 

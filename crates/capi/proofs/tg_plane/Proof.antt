@@ -1,4 +1,4 @@
--- `capi::tg_plane` meets its contract: a walk of its MIR, by hand (written by lend.py). The struct behind `d` is taken apart into its fields in memory; of `plane_place` the proof knows only that it meets its contract.
+-- `capi::tg_plane` meets its contract: a walk of its MIR, written by tools/walks. The struct behind `d` is taken apart into its fields in memory; of `plane_place` the proof knows only that it meets its contract.
 -- Assumes nothing.
 use mathlib.Core.Path.{_≡_, refl, sym, ap, subst}
 use Prim.Native.Nat.{ℕ, _<_, _^_, _+_}
@@ -32,16 +32,13 @@ use types.Share.{arr-parts}
 use denote.Memory.{mem, shares, partAt, partOf, cellAt, part-halves}
 use denote.Plain.{uint-vals, uint-tells, uint-makes, uint-lawful, bool-vals, bool-tells, bool-makes, bool-lawful}
 use denote.Signed.{sint-vals, sint-tells, sint-makes, sint-lawful}
-use denote.Builtin.{u32, u8, usize}
+use denote.Builtin.{u32, u64, u8, usize}
 use denote.Array.{Array}
 use denote.Ref.{RefT, MutRef, ShrRef, ptr-vals, mut-tells, shr-tells}
 use denote.Slice.{sliceVal, MutSlice, ShrSlice, finally, slice-vals, mut-slice-tells, shr-slice-tells}
 use denote.Lend.{Held, lends-ref, ref-back, lends-shr}
 use denote.Signature.{plain, shrSliceOf}
 use denote.Steps.{owned, peeks, heard, nothing}
-use denote.Struct.Steps.{spelt}
-use denote.Struct.Field.{Field}
-use denote.Struct.Declared.{field}
 use denote.Struct.Struct.{Struct}
 use denote.Struct.Members.{Member, rowsOf, partsAt}
 use denote.Struct.Parts.{shapeOf, PartsBack, struct-parts}
@@ -54,20 +51,19 @@ use denote.Triple.Clauses.{ensured, lasts}
 use denote.Triple.Walked.{says, needs, Stays, stay-ref, stay-none-ref, stay-dropped, gave-slice, walkOf, AllGo, goes-dropped, goes-ref, goes-none-ref, goes-gave-slice, Walks, ends-at, walked, walk-meets}
 use denote.Exit.{yes}
 use denote.Struct.Laws as LL
-use Rattle.capi.proofs.Fields.{big-lit, membersOf, map-same, part-open, part-shut, lends-shr-array, shr-array-back}
-use Rattle.buffers.specs.Queues.{entriesOf}
-use Rattle.stream.specs.Stream.{Stream, streamOf}
+use Rattle.capi.proofs.Fields.{big-lit, membersOf, map-same, lends-shr-array, shr-array-back}
+use Rattle.state.specs.State.{stateIn}
+use Rattle.buffers.specs.Stream.{Stream}
+use Rattle.buffers.specs.Words.{streamIn}
+use Rattle.state.specs.Setup.{setupIn}
 use Rattle.state.specs.State.{stateOf}
 use Rattle.device.specs.Film.{devicePlace}
 use Rattle.state.specs.declared.Device.{Device}
-use Rattle.planes.specs.declared.Place.{Place}
-use Rattle.state.specs.declared.Setup.{Setup}
 use Rattle.state.proofs.Device as T
 use Rattle.state.proofs.Device.Laws as T′
+use Rattle.planes.specs.declared.Place.{Place}
 use Rattle.planes.proofs.Place as S-Place
 use Rattle.planes.proofs.Place.Laws as S-Place′
-use Rattle.state.proofs.Setup as S-Setup
-use Rattle.state.proofs.Setup.Laws as S-Setup′
 use Rattle.device.proofs.plane_place as g
 use Rattle.device.proofs.plane_place.Symbol as g-def
 use Rattle.device.proofs.plane_place.Symbol.{name as #callee}
@@ -78,7 +74,7 @@ use Rattle.capi.proofs.tg_plane.Statement as stated
 use Rattle.capi.proofs.tg_plane.Code as code
 
 abbrev Arg : Type 0
-Arg = RefT Device × (ℕ × (ℕ × Unit {0}))
+Arg = (RefT Device × (ℕ × (ℕ × Unit {0})))
 
 abbrev stayed : Stays (f.ended .signature .params) (f.ended .kept)
 stayed = (stay-none-ref (0 ∷ []) tt (plain (λ _. T.the-row)) yes, (stay-dropped (plain (λ _. usize)) yes, (stay-dropped (plain (λ _. u32)) yes, tt)))
@@ -100,7 +96,7 @@ module _ {M : Type 1} (𝓤 : URA M) (H : Heap 𝓤) (A : Atoms 𝓤) (W : Given
   abbrev x : Arg
   x = (record { ptr = (b, o); name = γ; now = h }, (p-bytes, (p-plane, tt)))
 
-  abbrev at : List Val × (List Val × (List Val × Unit {0}))
+  abbrev at : (List Val × (List Val × (List Val × Unit {0})))
   at = (vptr b o ∷ [], (vint w64 (p-bytes) ∷ [], (vint w32 (p-plane) ∷ [], tt)))
 
   abbrev Post : Val → SProp 𝓤
@@ -116,19 +112,19 @@ module _ {M : Type 1} (𝓤 : URA M) (H : Heap 𝓤) (A : Atoms 𝓤) (W : Given
   together t h′ = via 𝓤 (sep 𝓤 (PartsBack 𝓤 H A t (T.the-type .name) members b o) (sem 𝓤 H A (partsAt t members 0 (T.the-type .to h′) b o))) (comm∗ 𝓤 (sem 𝓤 H A (partsAt t members 0 (T.the-type .to h′) b o)) (PartsBack 𝓤 H A t (T.the-type .name) members b o))
       (wandE 𝓤 (PartsBack 𝓤 H A t (T.the-type .name) members b o) (sem 𝓤 H A (partsAt t members 0 (T.the-type .to h′) b o)) (sem 𝓤 H A (partAt T.the-row t h′ b o)) (allE 𝓤 (λ (a′ : Denots (rowsOf members)). wand 𝓤 (sem 𝓤 H A (partsAt t members 0 a′ b o)) (sem 𝓤 H A (partAt (Struct (shapeOf (T.the-type .name) members)) t a′ b o))) (T.the-type .to h′)))
 
-  exits : (r : Place) → ((v : List ℕ) (t : Stream) → r ≡ devicePlace (h .sheet) (stateOf (h .setup) v t) p-bytes p-plane) → Is S-Place.the-row (r) (LL.val S-Place.the-type S-Place′.the-laws (r) ∷ [])
+  exits : (r : Place) → ((v : List ℕ) (t : Stream) → r ≡ devicePlace (h .sheet) (stateOf (setupIn (h .setup)) v t) p-bytes p-plane) → Is S-Place.the-row (r) (LL.val S-Place.the-type S-Place′.the-laws (r) ∷ [])
       → ent 𝓤 (sep 𝓤 (A .res γ (T.the-row .coded .code h)) (sep 𝓤 (A .shr-bor κ (λ s. partAt T.the-row s h b o)) (A .lft κ q))) (Post (LL.val S-Place.the-type S-Place′.the-laws (r)))
   exits r e is-r =
       qed W (‵ (fres γ (T.the-row .coded .code h)) ∷ ‵ (fshr-bor κ (λ s. partAt T.the-row s h b o)) ∷ ‵ (flft κ q) ∷ []) ∵
       suffices ! _ (ends-at 𝓤 H A f.ended stayed (f.clauses 𝓤 H A at-mem run) W (((κ, tt), (q, tt), tt, x, at), tt) (LL.val S-Place.the-type S-Place′.the-laws (r)) (r) (tt, (tt, (tt, tt))) (tt, (tt, (tt, tt)))) $
-      says ! (e (h .values) (streamOf (h .tally) (h .counts) (h .incoming) (entriesOf 32 (h .outgoing)))) $ nothing ! $ move ! (3 ∷ 0 ∷ []) $ join ! $ frame ! $ move ! (0 ∷ 1 ∷ []) $ feqI ! (List Val) (vptr b o ∷ []) (vptr b o ∷ []) refl $ fjoin3 ! $ nothing ! $ nothing ! $ fjoin ! $ nothing ! $ fjoin ! $ move ! (1 ∷ 0 ∷ []) $ fjoin ! $ frame ! $ owned ! S-Place.the-row (Is S-Place.the-row) ((LL.makes S-Place.the-type S-Place′.the-plain) 𝓤 H A) (r) _ is-r $ done !
+      says ! (e (h .values) (streamIn (h .video))) $ nothing ! $ move ! (3 ∷ 0 ∷ []) $ join ! $ frame ! $ move ! (0 ∷ 1 ∷ []) $ feqI ! (List Val) (vptr b o ∷ []) (vptr b o ∷ []) refl $ fjoin3 ! $ nothing ! $ nothing ! $ fjoin ! $ nothing ! $ fjoin ! $ move ! (1 ∷ 0 ∷ []) $ fjoin ! $ frame ! $ owned ! S-Place.the-row (Is S-Place.the-row) ((LL.makes S-Place.the-type S-Place′.the-plain) 𝓤 H A) (r) _ is-r $ done !
 
-  abbrev to-callee : (ν-sheet : ℕ) (δ-sheet : GName) → Callee 𝓤 H A at-mem run .Ghost
-  to-callee ν-sheet δ-sheet = (((ν-sheet ∷ [], tt), (fullShare, tt), tt, (record { ptr = (b, o + 0); name = δ-sheet; now = h .sheet }, (h .setup, (p-bytes, (p-plane, tt)))), (sliceVal (b, o + 0) 2688 ∷ [], (LL.val S-Setup.the-type S-Setup′.the-laws (h .setup) ∷ [], (vint w64 (p-bytes) ∷ [], (vint w32 (p-plane) ∷ [], tt))))), tt)
+  abbrev to-callee : (ν-sheet : ℕ) (ν-setup : ℕ) (δ-sheet : GName) (δ-setup : GName) → Callee 𝓤 H A at-mem run .Ghost
+  to-callee ν-sheet ν-setup δ-sheet δ-setup = (((ν-sheet ∷ [], (ν-setup ∷ [], tt)), (fullShare, (fullShare, tt)), tt, (record { ptr = (b, o + 0); name = δ-sheet; now = h .sheet }, (record { ptr = (b, o + 2688); name = δ-setup; now = h .setup }, (p-bytes, (p-plane, tt)))), (sliceVal (b, o + 0) 2688 ∷ [], (vptr b (o + 2688) ∷ [], (vint w64 (p-bytes) ∷ [], (vint w32 (p-plane) ∷ [], tt))))), tt)
 
-  goes-callee : (ν-sheet : ℕ) (δ-sheet : GName) → Is S-Setup.the-row (h .setup) (LL.val S-Setup.the-type S-Setup′.the-laws (h .setup) ∷ []) → ent 𝓤 (sep 𝓤 (A .lft (ν-sheet ∷ []) fullShare) (sem 𝓤 H A ((ShrSlice (named 0) (ν-sheet ∷ []) u8) .own (record { ptr = (b, o + 0); name = δ-sheet; now = h .sheet }) (sliceVal (b, o + 0) 2688 ∷ [])))) (Callee 𝓤 H A at-mem run .pre (to-callee ν-sheet δ-sheet))
-  goes-callee ν-sheet δ-sheet was-setup =
-      qed W (‵ (flft (ν-sheet ∷ []) fullShare) ∷ ‵ ((ShrSlice (named 0) (ν-sheet ∷ []) u8) .own (record { ptr = (b, o + 0); name = δ-sheet; now = h .sheet }) (sliceVal (b, o + 0) 2688 ∷ [])) ∷ []) ∵ nothing ! $ owned ! u32 (Is u32) (uint-makes 𝓤 H A W w32) p-plane _ is-p-plane $ fjoin ! $ owned ! usize (Is usize) (uint-makes 𝓤 H A W w64) p-bytes _ is-p-bytes $ fjoin ! $ owned ! S-Setup.the-row (Is S-Setup.the-row) ((LL.makes S-Setup.the-type S-Setup′.the-plain) 𝓤 H A) (h .setup) _ was-setup $ fjoin ! $ move ! (2 ∷ 0 ∷ []) $ fjoin ! $ nothing ! $ move ! (2 ∷ 0 ∷ []) $ join ! $ move ! (0 ∷ 1 ∷ []) $ join ! $ frame ! $ done !
+  goes-callee : (ν-sheet : ℕ) (ν-setup : ℕ) (δ-sheet : GName) (δ-setup : GName) → ent 𝓤 (sep 𝓤 (A .lft (ν-sheet ∷ []) fullShare) (sep 𝓤 (A .lft (ν-setup ∷ []) fullShare) (sep 𝓤 (sem 𝓤 H A ((ShrSlice (named 0) (ν-sheet ∷ []) u8) .own (record { ptr = (b, o + 0); name = δ-sheet; now = h .sheet }) (sliceVal (b, o + 0) 2688 ∷ []))) (sem 𝓤 H A ((ShrRef (named 1) (ν-setup ∷ []) (Array u32 10)) .own (record { ptr = (b, o + 2688); name = δ-setup; now = h .setup }) (vptr b (o + 2688) ∷ [])))))) (Callee 𝓤 H A at-mem run .pre (to-callee ν-sheet ν-setup δ-sheet δ-setup))
+  goes-callee ν-sheet ν-setup δ-sheet δ-setup =
+      qed W (‵ (flft (ν-sheet ∷ []) fullShare) ∷ ‵ (flft (ν-setup ∷ []) fullShare) ∷ ‵ ((ShrSlice (named 0) (ν-sheet ∷ []) u8) .own (record { ptr = (b, o + 0); name = δ-sheet; now = h .sheet }) (sliceVal (b, o + 0) 2688 ∷ [])) ∷ ‵ ((ShrRef (named 1) (ν-setup ∷ []) (Array u32 10)) .own (record { ptr = (b, o + 2688); name = δ-setup; now = h .setup }) (vptr b (o + 2688) ∷ [])) ∷ []) ∵ nothing ! $ owned ! u32 (Is u32) (uint-makes 𝓤 H A W w32) p-plane _ is-p-plane $ fjoin ! $ owned ! usize (Is usize) (uint-makes 𝓤 H A W w64) p-bytes _ is-p-bytes $ fjoin ! $ move ! (4 ∷ 0 ∷ []) $ fjoin ! $ move ! (3 ∷ 0 ∷ []) $ fjoin ! $ nothing ! $ move ! (3 ∷ 0 ∷ []) $ join ! $ move ! (2 ∷ 0 ∷ []) $ join ! $ move ! (0 ∷ 1 ∷ []) $ join ! $ frame ! $ done !
 
   module _ (C : Calls 𝓤 H) (Λ : Loops 𝓤 H) (fm : FmC 𝓤 H (W .laws) C) (known : Triple 𝓤 (C #callee) (Callee 𝓤 H A at-mem run)) where
     walk : ent 𝓤 (onEntry 𝓤 H A f.signature (κ, tt) (q, tt) x at) (WpFn 𝓤 H C Λ code.function (vptr b o ∷ vint w64 (p-bytes) ∷ vint w32 (p-plane) ∷ []) Post)
@@ -136,27 +132,28 @@ module _ {M : Type 1} (𝓤 : URA M) (H : Heap 𝓤) (A : Atoms 𝓤) (W : Given
         qed W ((‵ (flft κ q) ⊛ ‵ ftrue) ∷ ‵ (owns (ShrRef (named 0) κ T.the-row ∷ usize ∷ u32 ∷ []) x at) ∷ []) ∵ move ! (0 ∷ []) $ split ! $ move ! (1 ∷ []) $ drop ! $ move ! (1 ∷ []) $ fsplit ! $ move ! (1 ∷ []) $ fsplit ! $ move ! (1 ∷ []) $ fsplit ! $ move ! (1 ∷ []) $ drop ! $ move ! (1 ∷ []) $ drop ! $ move ! (0 ∷ []) $ drop ! $ move ! (0 ∷ []) $ fsplit3 ! $ drop ! $
         enter ! C Λ code.function (vptr b o ∷ vint w64 (p-bytes) ∷ vint w32 (p-plane) ∷ []) _ $ alloc1 ! (λ l0. alloc1 ! (λ l1. alloc1 ! (λ l2. alloc1 ! (λ l3. alloc1 ! (λ l4. alloc1 ! (λ l5. alloc1 ! (λ l6. alloc0 ! $ params1 ! $ pass1 ! (init ! 10 refl (tt, tt)) $ pass1 ! (init ! 8 refl (uint-lawful 𝓤 H A W w64 .typed (p-bytes) _ is-p-bytes .0)) $ pass1 ! (init ! 6 refl (uint-lawful 𝓤 H A W w32 .typed (p-plane) _ is-p-plane .0)) $ pass0 ! $
         -- the struct, taken apart into its fields
-        move ! (15 ∷ 16 ∷ []) $ shr-bor-dup ! $ move ! (1 ∷ 2 ∷ []) $ shr-bor-open ! tt (part-halves 𝓤 H A W T.the-row (Is T.the-row) (shows 𝓤 H A T.the-row) (LL.vals T.the-type T′.the-laws) (LL.tells T.the-type T′.the-laws) ((LL.copy T.the-type T′.the-copy) 𝓤 H A W) h b o) (λ t. move ! (1 ∷ []) $ use1 W (‵ (partsAt t members 0 (T.the-type .to h) b o) ⊛ raw (PartsBack 𝓤 H A t (T.the-type .name) members b o)) (apart t) $ split ! $ move ! (0 ∷ []) $ fsplit ! $ move ! (1 ∷ []) $ fsplit ! $ move ! (1 ∷ []) $ fsplit ! $ move ! (1 ∷ []) $ fsplit ! $ move ! (1 ∷ []) $ fsplit ! $ move ! (1 ∷ []) $ fsplit ! $ move ! (1 ∷ []) $ fsplit ! $ move ! (1 ∷ []) $ drop ! $
-        move ! (5 ∷ []) $ use1 W (some (λ (vs : List Val). ‵ (cellAt t (S-Setup.the-row .mir) vs b (o + 2688)) ⊛ ‵ (S-Setup.the-row .own (h .setup) vs))) (part-open 𝓤 H A (field S-Setup.the-type .row) t (S-Setup.the-type .to (h .setup)) b (o + 2688)) $ pick ! (λ vs-setup. split ! $ spelt ! S-Setup.the-row (Is S-Setup.the-row) (shows 𝓤 H A S-Setup.the-row) (LL.vals S-Setup.the-type S-Setup′.the-laws) (LL.tells S-Setup.the-type S-Setup′.the-laws) t (h .setup) vs-setup b (o + 2688) $ move ! (1 ∷ []) $ peeks ! S-Setup.the-row (Is S-Setup.the-row) (shows 𝓤 H A S-Setup.the-row) (h .setup) (LL.vals S-Setup.the-type S-Setup′.the-laws (h .setup)) (λ was-setup. move ! (0 ∷ []) $ drop ! $
-        rewrite ! 6 (λ (u : List ℕ). ‵ (partAt (Array u8 2688) t u b (o + 0))) (map-same (h .sheet)) refl $
+        move ! (15 ∷ 16 ∷ []) $ shr-bor-dup ! $ move ! (1 ∷ 2 ∷ []) $ shr-bor-open ! tt (part-halves 𝓤 H A W T.the-row (Is T.the-row) (shows 𝓤 H A T.the-row) (LL.vals T.the-type T′.the-laws) (LL.tells T.the-type T′.the-laws) ((LL.copy T.the-type T′.the-copy) 𝓤 H A W) h b o) (λ t. move ! (1 ∷ []) $ use1 W (‵ (partsAt t members 0 (T.the-type .to h) b o) ⊛ raw (PartsBack 𝓤 H A t (T.the-type .name) members b o)) (apart t) $ split ! $ move ! (0 ∷ []) $ fsplit ! $ move ! (1 ∷ []) $ fsplit ! $ move ! (1 ∷ []) $ fsplit ! $ move ! (1 ∷ []) $ fsplit ! $ move ! (1 ∷ []) $ drop ! $
+        rewrite ! 3 (λ (u : List ℕ). ‵ (partAt (Array u8 2688) t u b (o + 0))) (map-same (h .sheet)) refl $
+        rewrite ! 2 (λ (u : List ℕ). ‵ (partAt (Array u32 10) t u b (o + 2688))) (map-same (h .setup)) refl $
         -- the arguments
-        assigns ! (addr ! (from ! (hop ! (look ! 20 refl) (fld ! {d = 0} refl (stop !))))) (from ! (stop !)) (init ! 14 refl (tt, tt)) $
-        assigns ! (agg ! (and-then ! (load ! (from ! (stop !)) (look ! 14 refl)) (and-then ! (big-lit ! (record { fits = lit< tt })) (no-more !)))) (from ! (stop !)) (init ! 12 refl (tt, (tt, (record { fits = lit< tt }, tt)))) $
-        assigns ! (of-opd ! (load ! (from ! (hop ! (look ! 20 refl) (fld ! {d = 2688} refl (stop !)))) (look-raw ! 0 refl))) (from ! (stop !)) (init ! 10 refl (LL.lawful S-Setup.the-type S-Setup′.the-laws 𝓤 H A W .typed (h .setup) _ was-setup .0)) $
+        assigns ! (addr ! (from ! (hop ! (look ! 17 refl) (fld ! {d = 0} refl (stop !))))) (from ! (stop !)) (init ! 11 refl (tt, tt)) $
+        assigns ! (agg ! (and-then ! (load ! (from ! (stop !)) (look ! 11 refl)) (and-then ! (big-lit ! (record { fits = lit< tt })) (no-more !)))) (from ! (stop !)) (init ! 9 refl (tt, (tt, (record { fits = lit< tt }, tt)))) $
+        assigns ! (addr ! (from ! (hop ! (look ! 17 refl) (fld ! {d = 2688} refl (stop !))))) (from ! (stop !)) (init ! 7 refl (tt, tt)) $
         -- each array is lent for a lifetime of the call
-        lft-new ! tt (λ ν-sheet. move ! (7 ∷ []) $ use1 W (later (some (λ (δ-sheet : GName). ‵ ((ShrSlice (named 0) (ν-sheet ∷ []) u8) .own (record { ptr = (b, o + 0); name = δ-sheet; now = h .sheet }) (sliceVal (b, o + 0) 2688 ∷ [])) ⊛ ‵ (flent (ν-sheet ∷ []) (arr-parts (shares u8) 2688 .part t (h .sheet) b (o + 0)))))) (lends-shr-array 𝓤 H A W u8 (named 0) (ν-sheet ∷ []) t 2688 (h .sheet) b (o + 0) tt (lit< tt, lit< tt)) $ await ! tt $ pick ! (λ δ-sheet. split ! $
-        move ! (2 ∷ 0 ∷ []) $ group ! 2 $ use1 W (raw (Callee 𝓤 H A at-mem run .pre (to-callee ν-sheet δ-sheet))) (goes-callee ν-sheet δ-sheet was-setup) $
-        calls-at ! fm (Callee 𝓤 H A at-mem run) known (to-callee ν-sheet δ-sheet) (and-then ! (load ! (from ! (stop !)) (look ! 13 refl)) (and-then ! (load ! (from ! (stop !)) (look ! 11 refl)) (and-then ! (load ! (from ! (stop !)) (look ! 19 refl)) (and-then ! (load ! (from ! (stop !)) (look ! 17 refl)) (no-more !))))) (λ v.
-        use1 W (later (some (λ (r : Place). ((‵ (flft (ν-sheet ∷ []) fullShare) ⊛ ‵ ftrue) ⊛ ‵ (S-Place.the-row .own r (v ∷ []))) ⊛ raw (ensured 𝓤 H A g.ended (g.clauses 𝓤 H A at-mem run) (ν-sheet ∷ [], tt) (record { ptr = (b, o + 0); name = δ-sheet; now = h .sheet }, (h .setup, (p-bytes, (p-plane, tt)))) tt r)))) (id⊢ 𝓤 _) $ await ! tt $ pick ! (λ r. split ! $
-        move ! (1 ∷ []) $ use1 W (some (λ (zs : (Unit {0} × (Unit {0} × (Unit {0} × (Unit {0} × Unit {0}))))). ‵ (lasts g.ended (ν-sheet ∷ [], tt) (record { ptr = (b, o + 0); name = δ-sheet; now = h .sheet }, (h .setup, (p-bytes, (p-plane, tt)))) zs) ⊛ raw (fact 𝓤 (((v : List ℕ) (t : Stream) → r ≡ devicePlace (h .sheet) (stateOf (h .setup) v t) p-bytes p-plane))))) (id⊢ 𝓤 _) $ pick ! (λ zs. split ! $ move ! (1 ∷ []) $ heard ! (((v : List ℕ) (t : Stream) → r ≡ devicePlace (h .sheet) (stateOf (h .setup) v t) p-bytes p-plane)) (λ e.
+        lft-new ! tt (λ ν-sheet. move ! (4 ∷ []) $ use1 W (later (some (λ (δ-sheet : GName). ‵ ((ShrSlice (named 0) (ν-sheet ∷ []) u8) .own (record { ptr = (b, o + 0); name = δ-sheet; now = h .sheet }) (sliceVal (b, o + 0) 2688 ∷ [])) ⊛ ‵ (flent (ν-sheet ∷ []) (arr-parts (shares u8) 2688 .part t (h .sheet) b (o + 0)))))) (lends-shr-array 𝓤 H A W u8 (named 0) (ν-sheet ∷ []) t 2688 (h .sheet) b (o + 0) tt (lit< tt, lit< tt)) $ await ! tt $ pick ! (λ δ-sheet. split ! $
+        lft-new ! tt (λ ν-setup. move ! (6 ∷ []) $ use1 W (later (some (λ (δ-setup : GName). ‵ ((ShrRef (named 1) (ν-setup ∷ []) (Array u32 10)) .own (record { ptr = (b, o + 2688); name = δ-setup; now = h .setup }) (vptr b (o + 2688) ∷ [])) ⊛ ‵ (flent (ν-setup ∷ []) (partAt (Array u32 10) t (h .setup) b (o + 2688)))))) (lends-shr 𝓤 H A W (Array u32 10) (named 1) (ν-setup ∷ []) t (h .setup) b (o + 2688)) $ await ! tt $ pick ! (λ δ-setup. split ! $
+        move ! (5 ∷ 2 ∷ 3 ∷ 0 ∷ []) $ group ! 4 $ use1 W (raw (Callee 𝓤 H A at-mem run .pre (to-callee ν-sheet ν-setup δ-sheet δ-setup))) (goes-callee ν-sheet ν-setup δ-sheet δ-setup) $
+        calls-at ! fm (Callee 𝓤 H A at-mem run) known (to-callee ν-sheet ν-setup δ-sheet δ-setup) (and-then ! (load ! (from ! (stop !)) (look ! 10 refl)) (and-then ! (load ! (from ! (stop !)) (look ! 8 refl)) (and-then ! (load ! (from ! (stop !)) (look ! 16 refl)) (and-then ! (load ! (from ! (stop !)) (look ! 14 refl)) (no-more !))))) (λ v.
+        use1 W (later (some (λ (r : Place). ((‵ (flft (ν-sheet ∷ []) fullShare) ⊛ (‵ (flft (ν-setup ∷ []) fullShare) ⊛ ‵ ftrue)) ⊛ ‵ (S-Place.the-row .own r (v ∷ []))) ⊛ raw (ensured 𝓤 H A g.ended (g.clauses 𝓤 H A at-mem run) (ν-sheet ∷ [], (ν-setup ∷ [], tt)) (record { ptr = (b, o + 0); name = δ-sheet; now = h .sheet }, (record { ptr = (b, o + 2688); name = δ-setup; now = h .setup }, (p-bytes, (p-plane, tt)))) tt r)))) (id⊢ 𝓤 _) $ await ! tt $ pick ! (λ r. split ! $
+        move ! (1 ∷ []) $ use1 W (some (λ (zs : (Unit {0} × (Unit {0} × (Unit {0} × (Unit {0} × Unit {0}))))). ‵ (lasts g.ended (ν-sheet ∷ [], (ν-setup ∷ [], tt)) (record { ptr = (b, o + 0); name = δ-sheet; now = h .sheet }, (record { ptr = (b, o + 2688); name = δ-setup; now = h .setup }, (p-bytes, (p-plane, tt)))) zs) ⊛ raw (fact 𝓤 ((v : List ℕ) (t : Stream) → r ≡ devicePlace (h .sheet) (stateOf (setupIn (h .setup)) v t) p-bytes p-plane)))) (id⊢ 𝓤 _) $ pick ! (λ zs. split ! $ move ! (1 ∷ []) $ heard ! ((v : List ℕ) (t : Stream) → r ≡ devicePlace (h .sheet) (stateOf (setupIn (h .setup)) v t) p-bytes p-plane) (λ e.
         move ! (0 ∷ []) $ fsplit ! $ move ! (1 ∷ []) $ fsplit ! $ move ! (1 ∷ []) $ fsplit ! $ move ! (1 ∷ []) $ fsplit ! $ move ! (1 ∷ []) $ drop ! $ move ! (3 ∷ []) $ drop ! $ move ! (2 ∷ []) $ drop ! $ move ! (1 ∷ []) $ drop ! $ move ! (0 ∷ []) $ drop ! $ move ! (0 ∷ []) $ split ! $ move ! (1 ∷ []) $ peeks ! S-Place.the-row (Is S-Place.the-row) (shows 𝓤 H A S-Place.the-row) r (v ∷ []) (λ is. move ! (0 ∷ []) $ drop ! $
-        land ! (from ! (stop !)) (init ! 23 refl (LL.lawful S-Place.the-type S-Place′.the-laws 𝓤 H A W .typed (r) _ is .0)) $
-        move ! (0 ∷ []) $ split ! $ move ! (1 ∷ []) $ drop ! $
+        land ! (from ! (stop !)) (init ! 20 refl (LL.lawful S-Place.the-type S-Place′.the-laws 𝓤 H A W .typed (r) _ is .0)) $
+        move ! (0 ∷ []) $ split ! $ move ! (1 ∷ []) $ split ! $ move ! (1 ∷ []) $ drop ! $
         -- the lifetimes are ended, and the arrays come back
-        move ! (0 ∷ []) $ lft-end ! tt $ move ! (0 ∷ 1 ∷ []) $ lent-back ! tt $ use1 W (‵ (partAt (Array u8 2688) t (h .sheet) b (o + 0))) (shr-array-back 𝓤 H A W u8 t 2688 (h .sheet) b (o + 0)) $ rewrite ! 0 (λ (u : List ℕ). ‵ (partAt (Array u8 2688) t u b (o + 0))) (sym (map-same (h .sheet))) refl $
+        move ! (1 ∷ []) $ lft-end ! tt $ move ! (0 ∷ 3 ∷ []) $ lent-back ! tt $ use1 W (‵ (partAt (Array u8 2688) t (h .sheet) b (o + 0))) (shr-array-back 𝓤 H A W u8 t 2688 (h .sheet) b (o + 0)) $ rewrite ! 0 (λ (u : List ℕ). ‵ (partAt (Array u8 2688) t u b (o + 0))) (sym (map-same (h .sheet))) refl $
+        move ! (1 ∷ []) $ lft-end ! tt $ move ! (0 ∷ 2 ∷ []) $ lent-back ! tt $ rewrite ! 0 (λ (u : List ℕ). ‵ (partAt (Array u32 10) t u b (o + 2688))) (sym (map-same (h .setup))) refl $
         -- the fields, put together again
-        owned ! S-Setup.the-row (Is S-Setup.the-row) ((LL.makes S-Setup.the-type S-Setup′.the-plain) 𝓤 H A) (h .setup) _ was-setup $ move ! (2 ∷ 0 ∷ []) $ use2 W (‵ (partAt (field S-Setup.the-type .row) t (S-Setup.the-type .to (h .setup)) b (o + 2688))) (part-shut 𝓤 H A (field S-Setup.the-type .row) t (S-Setup.the-type .to (h .setup)) b (o + 2688) (LL.vals S-Setup.the-type S-Setup′.the-laws (h .setup))) $
-        nothing ! $ move ! (3 ∷ 0 ∷ []) $ fjoin ! $ move ! (3 ∷ 0 ∷ []) $ fjoin ! $ move ! (3 ∷ 0 ∷ []) $ fjoin ! $ move ! (3 ∷ 0 ∷ []) $ fjoin ! $ move ! (3 ∷ 0 ∷ []) $ fjoin ! $ move ! (1 ∷ 0 ∷ []) $ fjoin ! $ move ! (1 ∷ 0 ∷ []) $ fjoin ! $ move ! (0 ∷ 1 ∷ []) $ use2 W (‵ (partAt T.the-row t (h) b o)) (together t (h)) $ move ! (1 ∷ 0 ∷ []) $ obor-close ! tt $ drop ! $
+        nothing ! $ move ! (3 ∷ 0 ∷ []) $ fjoin ! $ move ! (3 ∷ 0 ∷ []) $ fjoin ! $ move ! (1 ∷ 0 ∷ []) $ fjoin ! $ move ! (1 ∷ 0 ∷ []) $ fjoin ! $ move ! (0 ∷ 1 ∷ []) $ use2 W (‵ (partAt T.the-row t (h) b o)) (together t (h)) $ move ! (1 ∷ 0 ∷ []) $ obor-close ! tt $ drop ! $
         rewrite ! 14 (λ (u : Val). ‵ (fat fullShare (S-Place′.mir) l0 0 u)) (ap hd (LL.tells S-Place.the-type S-Place′.the-laws r (v ∷ []) is)) refl $ returns ! (look ! 14 refl) $ forget ! 2 refl $ forget ! 4 refl $ forget ! 6 refl $ forget ! 8 refl $ forget ! 10 refl $ forget ! 12 refl $ forget ! 14 refl $ move ! (14 ∷ 15 ∷ []) $ free1 ! $ move ! (12 ∷ 13 ∷ []) $ free1 ! $ move ! (10 ∷ 11 ∷ []) $ free1 ! $ move ! (8 ∷ 9 ∷ []) $ free1 ! $ move ! (6 ∷ 7 ∷ []) $ free1 ! $ move ! (4 ∷ 5 ∷ []) $ free1 ! $ move ! (2 ∷ 3 ∷ []) $ free1 ! $ free0 ! $
         keep ! (2 ∷ 1 ∷ 0 ∷ []) $ by ! (exits r e (subst (λ (us : List Val). Is S-Place.the-row r us) (LL.tells S-Place.the-type S-Place′.the-laws r (v ∷ []) is) is)))))))))))))))))))
 

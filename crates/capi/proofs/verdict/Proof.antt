@@ -1,4 +1,7 @@
--- The verdict of the device, as a number. Assumes nothing.
+-- The number of the device's verdict. Assumes nothing.
+use mathlib.Core.Path.{_∙_, ap}
+use Rattle.status.specs.declared.Verdict.{Verdict}
+use Rattle.status.specs.Film.{verdictNumber}
 use borrow.Author.Needs.{needs}
 use Rattle.capi.proofs.verdict.Statement.{statement}
 use Rattle.capi.proofs.verdict.Tie as tie
@@ -10,7 +13,7 @@ verdict-number-requires : tie.Need-verdict-number-requires
 verdict-number-requires c κs = search needs
 
 returns : tie.Need-returns
-returns c v n i o = rw (c .verdict-number .ensures, c .before .verdict-of .ensures v n i o)
+returns c v = c .verdict-number .ensures ∙ ap (λ (x : Verdict). verdictNumber x) (c .before .verdict-of .ensures v)
 
 pub verdict-spec : {M : Type 1} → statement M
 verdict-spec = tie.close (tie.spec verdict-of-requires verdict-number-requires returns)

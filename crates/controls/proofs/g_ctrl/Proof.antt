@@ -27,8 +27,10 @@ same-length c = search needs
 
 returns : tie.Need-returns
 returns c p t =
-    let g = c .before .before .before .before .before .reading .given in
-    rw (c .before .before .put-value .ensures) (read-value _ _ _ (c .before .before .before .before .before .before .before .before .before .word-at .ensures) (c .before .before .before .before .before .before .before .read .ensures) (g .0 .0) (g .1))
+    let g = c .before .before .before .before .before in
+    let o = g .before .before in
+    rw (c .before .before .put-value .ensures)
+    (read-value _ _ _ (o .before .word-at .ensures) (o .read .ensures) (g .reading .given .0 .0) (g .reading .given .1))
 
 same-length-2 : tie.Need-same-length-2
 same-length-2 c = search needs
@@ -36,7 +38,8 @@ same-length-2 c = search needs
 returns-2 : tie.Need-returns-2
 returns-2 c p t =
     let g = c .before .before .reading2 .given in
-    read-refused _ _ _ (c .before .before .before .before .before .before .word-at .ensures) (c .before .before .before .before .read .ensures) (g .0 .0) (g .1) (c .errno .ensures)
+    let o = c .before .before .before .before in
+    read-refused _ _ _ (o .before .word-at .ensures) (o .read .ensures) (g .0 .0) (g .1) (c .errno .ensures)
 
 pub g-ctrl-spec : {M : Type 1} → statement M
 g-ctrl-spec =

@@ -1,35 +1,25 @@
--- Three words. Assumes nothing.
+-- Three of the four words. Assumes nothing.
 use Rattle.geometry.specs.Geometry.{rangeAt}
 use borrow.Author.Needs.{needs}
 use Rattle.geometry.proofs.range_at.Statement.{statement}
 use Rattle.geometry.proofs.range_at.Tie as tie
 
-word-at-requires : tie.Need-word-at-requires
-word-at-requires c κs = search needs
+four-words-requires : tie.Need-four-words-requires
+four-words-requires c κs = search needs
 
-add-word-at : tie.Need-add-word-at
-add-word-at c = search needs
+array-read-t7 : tie.Need-array-read-t7
+array-read-t7 c = search needs
 
-word-at-requires-2 : tie.Need-word-at-requires-2
-word-at-requires-2 c κs = search needs
+array-read-t10 : tie.Need-array-read-t10
+array-read-t10 c = search needs
 
-add-word-at-2 : tie.Need-add-word-at-2
-add-word-at-2 c = search needs
-
-word-at-requires-3 : tie.Need-word-at-requires-3
-word-at-requires-3 c κs = search needs
+array-read-t13 : tie.Need-array-read-t13
+array-read-t13 c = search needs
 
 returns : tie.Need-returns
 unfolding rangeAt
-returns c = cc
+returns c = rw (c .four-words .ensures)
 
 pub range-at-spec : {M : Type 1} → statement M
 range-at-spec =
-    tie.close
-    (tie.spec
-    word-at-requires
-    add-word-at
-    word-at-requires-2
-    add-word-at-2
-    word-at-requires-3
-    returns)
+    tie.close (tie.spec four-words-requires array-read-t7 array-read-t10 array-read-t13 returns)

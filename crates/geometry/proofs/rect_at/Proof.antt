@@ -1,50 +1,65 @@
 -- Four words as signed numbers. Assumes nothing.
+use Rattle.wire.specs.Signed.{signedAt}
 use Rattle.wire.proofs.Integers.{again}
 use Rattle.geometry.specs.Geometry.{rectAt}
 use borrow.Author.Needs.{needs}
 use Rattle.geometry.proofs.rect_at.Statement.{statement}
 use Rattle.geometry.proofs.rect_at.Tie as tie
 
-signed-at-requires : tie.Need-signed-at-requires
-signed-at-requires c κs = search needs
+four-words-requires : tie.Need-four-words-requires
+four-words-requires c κs = search needs
 
-add-signed-at : tie.Need-add-signed-at
-add-signed-at c = search needs
+array-read-as-signed : tie.Need-array-read-as-signed
+array-read-as-signed c = search needs
 
-signed-at-requires-2 : tie.Need-signed-at-requires-2
-signed-at-requires-2 c κs = search needs
+as-signed-requires : tie.Need-as-signed-requires
+as-signed-requires c κs = search needs
 
-add-signed-at-2 : tie.Need-add-signed-at-2
-add-signed-at-2 c = search needs
+array-read-as-signed-2 : tie.Need-array-read-as-signed-2
+array-read-as-signed-2 c = search needs
 
-signed-at-requires-3 : tie.Need-signed-at-requires-3
-signed-at-requires-3 c κs = search needs
+as-signed-requires-2 : tie.Need-as-signed-requires-2
+as-signed-requires-2 c κs = search needs
 
-add-signed-at-3 : tie.Need-add-signed-at-3
-add-signed-at-3 c = search needs
+array-read-as-signed-3 : tie.Need-array-read-as-signed-3
+array-read-as-signed-3 c = search needs
 
-signed-at-requires-4 : tie.Need-signed-at-requires-4
-signed-at-requires-4 c κs = search needs
+as-signed-requires-3 : tie.Need-as-signed-requires-3
+as-signed-requires-3 c κs = search needs
+
+array-read-as-signed-4 : tie.Need-array-read-as-signed-4
+array-read-as-signed-4 c = search needs
+
+as-signed-requires-4 : tie.Need-as-signed-requires-4
+as-signed-requires-4 c κs = search needs
 
 returns : tie.Need-returns
-unfolding rectAt
+unfolding rectAt signedAt
 returns c =
-    cc (
-      again (c .before .before .before .signed-at .result) (c .before .before .before .signed-at .ok),
-      again (c .before .before .signed-at2 .result) (c .before .before .signed-at2 .ok),
-      again (c .before .signed-at3 .result) (c .before .signed-at3 .ok),
-      again (c .signed-at4 .result) (c .signed-at4 .ok),
+    let left = c .before .before .before in
+    rw (
+      again (left .as-signed .result) (left .as-signed .ok),
+      again (c .before .before .as-signed2 .result) (c .before .before .as-signed2 .ok),
+      again (c .before .as-signed3 .result) (c .before .as-signed3 .ok),
+      again (c .as-signed4 .result) (c .as-signed4 .ok),
+      left .as-signed .ensures,
+      c .before .before .as-signed2 .ensures,
+      c .before .as-signed3 .ensures,
+      c .as-signed4 .ensures,
+      left .before .four-words .ensures,
     )
 
 pub rect-at-spec : {M : Type 1} → statement M
 rect-at-spec =
     tie.close
     (tie.spec
-    signed-at-requires
-    add-signed-at
-    signed-at-requires-2
-    add-signed-at-2
-    signed-at-requires-3
-    add-signed-at-3
-    signed-at-requires-4
+    four-words-requires
+    array-read-as-signed
+    as-signed-requires
+    array-read-as-signed-2
+    as-signed-requires-2
+    array-read-as-signed-3
+    as-signed-requires-3
+    array-read-as-signed-4
+    as-signed-requires-4
     returns)

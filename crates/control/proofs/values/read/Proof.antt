@@ -24,9 +24,9 @@ cast-v c = search needs
 mul-v : tie.Need-mul-v
 mul-v c = search needs
 
-array-read-v : tie.Need-array-read-v
+element-copy-out-v : tie.Need-element-copy-out-v
 unfolding present
-array-read-v c = omega (arith, c .before .count .ensures)
+element-copy-out-v c = omega (arith, c .before .count .ensures)
 
 control-fields-requires : tie.Need-control-fields-requires
 control-fields-requires c κs = search needs
@@ -37,7 +37,8 @@ reading-at-requires c κs = search needs
 returns-2 : tie.Need-returns-2
 unfolding reading
 returns-2 c =
-    rw (← c .before .before .before .count .ensures, ← c .before .before .before .before .place .ensures, lt-leb _ _ (c .before .before .if1 .left)) (cc)
+    let i = c .before .before .before in
+    rw (← i .before .count .ensures, ← i .before .before .place .ensures, lt-leb _ _ (i .if1 .left)) (cc)
 
 pub read-spec : {M : Type 1} → statement M
 read-spec =
@@ -48,7 +49,7 @@ read-spec =
     returns
     cast-v
     mul-v
-    array-read-v
+    element-copy-out-v
     control-fields-requires
     reading-at-requires
     returns-2)

@@ -1,23 +1,26 @@
--- A closed device by the one test; an open one as the stream answers. Assumes nothing.
-use mathlib.Core.Path.{ap, _∙_}
+-- A closed device; else the frame size of the setup, and what the stream promises. Assumes nothing.
+use mathlib.Core.Path.{_∙_, ap}
 use denote.Ref.{now}
-use Rattle.buffers.specs.Queues.{entriesOf}
-use Rattle.stream.specs.Stream.{streamOf}
 use Rattle.arrival.specs.Arrivals.{Arrived, writtenBy}
-use Rattle.state.specs.State.{stateOf}
+use Rattle.state.specs.Setup.{setupIn}
+use Rattle.state.specs.State.{stateIn}
 use Rattle.device.proofs.Cases.{taken-closed, memory-closed, taken-open, memory-open}
 use borrow.Author.Needs.{needs}
 use Rattle.device.proofs.film.arrive.Statement.{statement}
 use Rattle.device.proofs.film.arrive.Tie as tie
 
-returns : tie.Need-returns
-returns c v =
-    let a = c .before .before .before .before .before .args in
-    let d = stateOf (a .s) v (streamOf (now (a .tally)) (now (a .counts)) (now (a .incoming)) (entriesOf 32 (now (a .outgoing)))) in
-    (taken-closed _ d (c .if1 .taken) _ _ _, memory-closed _ d (c .if1 .taken) _ _ _)
+element-copy-out-if1 : tie.Need-element-copy-out-if1
+element-copy-out-if1 c = search needs
 
-frame-size-requires : tie.Need-frame-size-requires
-frame-size-requires c κs = search needs
+returns : tie.Need-returns
+unfolding setupIn
+returns c v =
+    let a = c .before .before .before .before .args in
+    let d = stateIn (now (a .setup)) v (now (a .video)) in
+    (taken-closed d (c .if1 .taken) _ _ _, memory-closed d (c .if1 .taken) _ _ _)
+
+element-copy-out-size : tie.Need-element-copy-out-size
+element-copy-out-size c = search needs
 
 whole-picture-requires : tie.Need-whole-picture-requires
 whole-picture-requires c κs = search needs
@@ -29,23 +32,22 @@ same-length : tie.Need-same-length
 same-length c = search needs
 
 returns-2 : tie.Need-returns-2
+unfolding setupIn
 returns-2 c v =
-    let a = c .before .before .before .before .before .before .before .before .before .before .before .before .before .before .before .args in
-    let t = streamOf (now (a .tally)) (now (a .counts)) (now (a .incoming)) (entriesOf 32 (now (a .outgoing))) in
-    let d = stateOf (a .s) v t in
-    let ready = c .before .before .before .before .before .before .before .before .before .before .if1 .left in
-    let n = c .before .before .before .before .before .before .before .before .before .frame-size .result in
-    let size = c .before .before .before .before .before .before .before .before .before .frame-size .ensures v t in
-    let whole = c .before .before .before .before .before .before .before .before .whole-picture .ensures in
+    let a = c .before .before .before .before .before .before .before .before .before .before .before .args in
+    let d = stateIn (now (a .setup)) v (now (a .video)) in
+    let ready = c .before .before .before .before .before .before .before .if1 .left in
+    let whole = c .before .before .before .before .before .whole-picture .ensures in
     let r = c .before .before .arrive .ensures in
-    (taken-open _ d ready _ _ _ size whole (r .0), memory-open _ d ready (now (a .memory)) (now (a .frame)) _ size whole (r .1 ∙ ap (λ (z : Arrived). writtenBy (z .arrival) n (now (a .memory)) (now (a .frame))) (r .0)))
+    (taken-open d ready _ _ _ whole (r .0), memory-open d ready (now (a .memory)) (now (a .frame)) _ whole (r .1 ∙ ap (λ (z : Arrived). writtenBy (z .arrival) (d .size) (now (a .memory)) (now (a .frame))) (r .0)))
 
 pub arrive-spec : {M : Type 1} → statement M
 arrive-spec =
     tie.close
     (tie.spec
+    element-copy-out-if1
     returns
-    frame-size-requires
+    element-copy-out-size
     whole-picture-requires
     arrive-requires
     same-length

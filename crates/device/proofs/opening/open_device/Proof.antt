@@ -1,8 +1,7 @@
 -- The tests in the order of the definition. Assumes nothing.
 use mathlib.Core.Path.{_∙_}
-use Rattle.device.proofs.Arrays.{fresh}
-use Rattle.device.proofs.Cases.{opened-bad, opened-long, opened-good}
 use Rattle.state.specs.State.{openingState}
+use Rattle.device.proofs.Cases.{opened-bad, opened-long, opened-good}
 use borrow.Author.Needs.{needs}
 use Rattle.device.proofs.opening.open_device.Statement.{statement}
 use Rattle.device.proofs.opening.open_device.Tie as tie
@@ -37,13 +36,15 @@ slice-aggregate-at-opening c = search needs
 at-opening-requires : tie.Need-at-opening-requires
 at-opening-requires c κs = search needs
 
+fresh-requires : tie.Need-fresh-requires
+fresh-requires c κs = search needs
+
 returns-3 : tie.Need-returns-3
 unfolding openingState
 returns-3 c =
-    let n = c .before .before .before .before .before .before .before .before .before .args .length in
-    let g = c .before .before .before .before .before .before .before .good-sheet .ensures in
-    rw (c .at-opening .ensures, c .before .before .opening .ensures, c .before .before .before .before .kept .ensures, fresh n)
-    (opened-good _ _ g (c .before .before .before .before .before .before .if1 .left) (c .before .before .before .before .before .if2 .left))
+    let g = c .before .before .before .before .before .before .before .before .good-sheet .ensures in
+    rw (c .fresh .ensures, c .before .at-opening .ensures, c .before .before .before .opening .ensures, c .before .before .before .before .before .kept .ensures)
+    (opened-good _ _ g (c .before .before .before .before .before .before .before .if1 .left) (c .before .before .before .before .before .before .if2 .left))
 
 pub open-device-spec : {M : Type 1} → statement M
 open-device-spec =
@@ -59,4 +60,5 @@ open-device-spec =
     opening-requires
     slice-aggregate-at-opening
     at-opening-requires
+    fresh-requires
     returns-3)

@@ -5,7 +5,6 @@ use Prim.Native.Nat.{ℕ, _+_}
 use lib.ListN.{length, replicate}
 use lib.Seq.{sets}
 use denote.Ref.{now}
-use Rattle.wire.specs.Words.{bytesOf}
 use Rattle.wire.proofs.Stores.{over-zeros}
 use Rattle.wire.proofs.Words.{length-bytesOf}
 use Rattle.wire.specs.Words.{bytesOf, le32}
@@ -19,15 +18,6 @@ filled : (a b c d e f g h i : ℕ) → let ws = a ∷ b ∷ c ∷ d ∷ e ∷ f 
 filled a b c d e f g h i =
     let ws : List ℕ = a ∷ b ∷ c ∷ d ∷ e ∷ f ∷ g ∷ h ∷ i ∷ [] in
     over-zeros (bytesOf ws) 204 168 (rw (length-bytesOf ws))
-
-line-alignment-requires : tie.Need-line-alignment-requires
-line-alignment-requires c κs = search needs
-
-bytes-per-line-requires : tie.Need-bytes-per-line-requires
-bytes-per-line-requires c κs = search needs
-
-image-size-requires : tie.Need-image-size-requires
-image-size-requires c κs = search needs
 
 colour-space-requires : tie.Need-colour-space-requires
 colour-space-requires c κs = search needs
@@ -55,22 +45,18 @@ unfolding formatReply pictureWords
 returns c =
     let p = c .before .before .before .before .before .before in
     let o = p .before .before .before in
-    let s = o .before .before .before .before .before .before in
-    let f = s .args .f in
+    let a = o .before .before .args in
     rw (
       c .before .before .put-bytes .ensures,
       p .put-words .ensures,
-      filled (s .args .kind) (f .width) (f .height) (f .code) 1 (o .before .before .bytes-per-line .result) (o .before .image-size .result) (o .colour-space .result) 0,
+      filled (a .kind) (a .f .width) (a .f .height) (a .f .code) 1 (a .line) (a .size) (o .colour-space .result) 0,
+      o .colour-space .ensures,
     )
-    (cc)
 
 pub put-format-spec : {M : Type 1} → statement M
 put-format-spec =
     tie.close
     (tie.spec
-    line-alignment-requires
-    bytes-per-line-requires
-    image-size-requires
     colour-space-requires
     slice-aggregate-put-words
     slice-aggregate-put-words-2

@@ -1,5 +1,5 @@
 -- The test of the type, then what put_crop_capability ensures. Assumes nothing.
-use Rattle.settings.proofs.Cases.{typed-refused, typed-passed}
+use Rattle.state.proofs.Typed.{typed-refused, typed-passed}
 use Rattle.settings.specs.Settings.{cropcapOf}
 use borrow.Author.Needs.{needs}
 use Rattle.settings.proofs.crops.cropcap.Statement.{statement}
@@ -16,7 +16,7 @@ same-length c = search needs
 
 returns : tie.Need-returns
 unfolding cropcapOf
-returns c v t = typed-refused 0 _ _ _ (c .before .before .word-at .ensures) (c .before .if1 .taken) (c .errno .ensures)
+returns c d = typed-refused 0 d _ _ (c .before .before .word-at .ensures) (c .before .if1 .taken) (c .errno .ensures)
 
 put-crop-capability-requires : tie.Need-put-crop-capability-requires
 put-crop-capability-requires c κs = search needs
@@ -26,7 +26,7 @@ same-length-2 c = search needs
 
 returns-2 : tie.Need-returns-2
 unfolding cropcapOf
-returns-2 c v t = rw (typed-passed 0 _ _ _ (c .before .before .before .before .before .word-at .ensures) (c .before .before .before .before .if1 .left), c .before .before .put-crop-capability .ensures)
+returns-2 c d = rw (typed-passed 0 d _ _ (c .before .before .before .before .before .word-at .ensures) (c .before .before .before .before .if1 .left), c .before .before .put-crop-capability .ensures)
 
 pub cropcap-spec : {M : Type 1} → statement M
 cropcap-spec =

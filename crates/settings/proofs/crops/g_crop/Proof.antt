@@ -1,5 +1,5 @@
 -- The test of the type, then what put_crop ensures. Assumes nothing.
-use Rattle.settings.proofs.Cases.{typed-refused, typed-passed}
+use Rattle.state.proofs.Typed.{typed-refused, typed-passed}
 use Rattle.settings.specs.Settings.{gCropOf}
 use borrow.Author.Needs.{needs}
 use Rattle.settings.proofs.crops.g_crop.Statement.{statement}
@@ -18,6 +18,9 @@ returns : tie.Need-returns
 unfolding gCropOf
 returns c v t = typed-refused 0 _ _ _ (c .before .before .word-at .ensures) (c .before .if1 .taken) (c .errno .ensures)
 
+crop-in-requires : tie.Need-crop-in-requires
+crop-in-requires c κs = search needs
+
 put-crop-requires : tie.Need-put-crop-requires
 put-crop-requires c κs = search needs
 
@@ -26,7 +29,7 @@ same-length-2 c = search needs
 
 returns-2 : tie.Need-returns-2
 unfolding gCropOf
-returns-2 c v t = rw (typed-passed 0 _ _ _ (c .before .before .before .before .before .before .word-at .ensures) (c .before .before .before .before .before .if1 .left), c .before .before .put-crop .ensures)
+returns-2 c v t = rw (typed-passed 0 _ _ _ (c .before .before .before .before .before .before .word-at .ensures) (c .before .before .before .before .before .if1 .left), c .before .before .put-crop .ensures, c .before .before .before .crop-in .ensures)
 
 pub g-crop-spec : {M : Type 1} → statement M
 g-crop-spec =
@@ -36,6 +39,7 @@ g-crop-spec =
     errno-requires
     same-length
     returns
+    crop-in-requires
     put-crop-requires
     same-length-2
     returns-2)

@@ -1,5 +1,5 @@
--- The test of the type, then what clamp ensures. Assumes nothing.
-use Rattle.settings.proofs.Cases.{typed-refused, typed-passed}
+-- The test of the type, then what clamp and keep_crop ensure. Assumes nothing.
+use Rattle.state.proofs.Typed.{typed-refused, typed-passed}
 use Rattle.settings.specs.Settings.{sCropOf}
 use borrow.Author.Needs.{needs}
 use Rattle.settings.proofs.crops.s_crop.Statement.{statement}
@@ -24,9 +24,12 @@ asked-requires c κs = search needs
 clamp-requires : tie.Need-clamp-requires
 clamp-requires c κs = search needs
 
+keep-crop-requires : tie.Need-keep-crop-requires
+keep-crop-requires c κs = search needs
+
 returns-2 : tie.Need-returns-2
 unfolding sCropOf
-returns-2 c v t = rw (typed-passed 0 _ _ _ (c .before .before .before .before .word-at .ensures) (c .before .before .before .if1 .left), c .clamp .ensures, c .before .before .crop-bounds .ensures, c .before .asked .ensures)
+returns-2 c v t = rw (typed-passed 0 _ _ _ (c .before .before .before .before .before .before .word-at .ensures) (c .before .before .before .before .before .if1 .left), c .keep-crop .ensures, c .before .before .clamp .ensures, c .before .before .before .before .crop-bounds .ensures, c .before .before .before .asked .ensures)
 
 pub s-crop-spec : {M : Type 1} → statement M
 s-crop-spec =
@@ -38,4 +41,5 @@ s-crop-spec =
     crop-bounds-requires
     asked-requires
     clamp-requires
+    keep-crop-requires
     returns-2)

@@ -1,5 +1,5 @@
 -- The tests of the type and of the index, then what put_description ensures. Assumes nothing.
-use Rattle.settings.proofs.Cases.{typed-refused, typed-passed}
+use Rattle.state.proofs.Typed.{typed-refused, typed-passed}
 use borrow.Author.Tests.{lt-leb, le-leb}
 use Rattle.settings.specs.Settings.{enumFmtOf}
 use borrow.Author.Needs.{needs}
@@ -20,7 +20,7 @@ same-length c = search needs
 
 returns : tie.Need-returns
 unfolding enumFmtOf
-returns c v t = typed-refused 4 _ _ _ (c .before .before .word-at2 .ensures) (c .before .if1 .taken) (c .errno .ensures)
+returns c d = typed-refused 4 d _ _ (c .before .before .word-at2 .ensures) (c .before .if1 .taken) (c .errno .ensures)
 
 format-count-requires : tie.Need-format-count-requires
 format-count-requires c κs = search needs
@@ -33,7 +33,7 @@ same-length-2 c = search needs
 
 returns-2 : tie.Need-returns-2
 unfolding enumFmtOf
-returns-2 c v t = rw (typed-passed 4 _ _ _ (c .before .before .before .before .word-at2 .ensures) (c .before .before .before .if1 .left), ← c .before .before .format-count .ensures, ← c .before .before .before .before .before .before .word-at .ensures, le-leb _ _ (c .before .if2 .taken), c .errno2 .ensures)
+returns-2 c d = rw (typed-passed 4 d _ _ (c .before .before .before .before .word-at2 .ensures) (c .before .before .before .if1 .left), ← c .before .before .format-count .ensures, ← c .before .before .before .before .before .before .word-at .ensures, le-leb _ _ (c .before .if2 .taken), c .errno2 .ensures)
 
 put-description-requires : tie.Need-put-description-requires
 put-description-requires c κs = search needs
@@ -43,7 +43,7 @@ same-length-3 c = search needs
 
 returns-3 : tie.Need-returns-3
 unfolding enumFmtOf
-returns-3 c v t = rw (typed-passed 4 _ _ _ (c .before .before .before .before .before .before .before .word-at2 .ensures) (c .before .before .before .before .before .before .if1 .left), ← c .before .before .before .before .before .format-count .ensures, ← c .before .before .before .before .before .before .before .before .before .word-at .ensures, lt-leb _ _ (c .before .before .before .before .if2 .left), c .before .before .put-description .ensures)
+returns-3 c d = rw (typed-passed 4 d _ _ (c .before .before .before .before .before .before .before .word-at2 .ensures) (c .before .before .before .before .before .before .if1 .left), ← c .before .before .before .before .before .format-count .ensures, ← c .before .before .before .before .before .before .before .before .before .word-at .ensures, lt-leb _ _ (c .before .before .before .before .if2 .left), c .before .before .put-description .ensures)
 
 pub enum-fmt-spec : {M : Type 1} → statement M
 enum-fmt-spec =

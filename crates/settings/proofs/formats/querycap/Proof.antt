@@ -12,7 +12,7 @@ same-length c = search needs
 
 returns : tie.Need-returns
 unfolding querycapOf
-returns c v t = rw (c .before .before .put-capability .ensures)
+returns c d = rw (c .before .before .put-capability .ensures)
 
 pub querycap-spec : {M : Type 1} → statement M
 querycap-spec = tie.close (tie.spec put-capability-requires same-length returns)

@@ -1,5 +1,5 @@
--- The tests of the type and of the buffers, then what put_format ensures. Assumes nothing.
-use Rattle.settings.proofs.Cases.{typed-refused, typed-passed}
+-- The tests of the type and of the buffers, then what is answered and kept. Assumes nothing.
+use Rattle.state.proofs.Typed.{typed-refused, typed-passed}
 use borrow.Author.Tests.{eq-eqb, ne-eqb}
 use Rattle.settings.specs.Settings.{sFmtOf}
 use borrow.Author.Needs.{needs}
@@ -29,21 +29,20 @@ returns-2 : tie.Need-returns-2
 unfolding sFmtOf
 returns-2 c v t e = rw (typed-passed 0 _ _ _ (c .before .before .before .word-at .ensures) (c .before .before .if1 .left), e, ne-eqb _ _ (c .before .if2 .taken), c .errno2 .ensures)
 
-asked-requires : tie.Need-asked-requires
-asked-requires c κs = search needs
+answered-requires : tie.Need-answered-requires
+answered-requires c κs = search needs
 
-negotiate-requires : tie.Need-negotiate-requires
-negotiate-requires c κs = search needs
-
-put-format-requires : tie.Need-put-format-requires
-put-format-requires c κs = search needs
+keep-format-requires : tie.Need-keep-format-requires
+keep-format-requires c κs = search needs
 
 same-length-3 : tie.Need-same-length-3
 same-length-3 c = search needs
 
 returns-3 : tie.Need-returns-3
 unfolding sFmtOf
-returns-3 c v t e = rw (typed-passed 0 _ _ _ (c .before .before .before .before .before .before .before .before .before .word-at .ensures) (c .before .before .before .before .before .before .before .before .if1 .left), e, eq-eqb _ _ (c .before .before .before .before .before .before .before .if2 .left), c .before .before .put-format .ensures, c .before .before .before .before .negotiate .ensures, c .before .before .before .before .before .asked .ensures)
+returns-3 c v t e =
+    let p = c .before .before .before .before .before .answered in
+    rw (typed-passed 0 _ _ _ (c .before .before .before .before .before .before .before .before .before .word-at .ensures) (c .before .before .before .before .before .before .before .before .if1 .left), e, eq-eqb _ _ (c .before .before .before .before .before .before .before .if2 .left), c .keep-format .ensures, p .ensures .1, p .ensures .0)
 
 pub s-fmt-spec : {M : Type 1} → statement M
 s-fmt-spec =
@@ -56,8 +55,7 @@ s-fmt-spec =
     errno-requires-2
     same-length-2
     returns-2
-    asked-requires
-    negotiate-requires
-    put-format-requires
+    answered-requires
+    keep-format-requires
     same-length-3
     returns-3)

@@ -1,36 +1,31 @@
--- What the four calls promise. Assumes nothing.
+-- Each part as its callee promises. Assumes nothing.
+use Rattle.status.specs.Buffer.{statusOf}
 use borrow.Author.Needs.{needs}
-use Rattle.buffers.specs.Queues.{entriesOf}
-use Rattle.status.specs.Buffer.{statusOf, flagsOf}
 use Rattle.status.proofs.buffer.of_buffer.Statement.{statement}
 use Rattle.status.proofs.buffer.of_buffer.Tie as tie
 
-find-outgoing-requires : tie.Need-find-outgoing-requires
-find-outgoing-requires c κs = search needs
-
-is-incoming-requires : tie.Need-is-incoming-requires
-is-incoming-requires c κs = search needs
+standing-of-requires : tie.Need-standing-of-requires
+standing-of-requires c κs = search needs
 
 flags-requires : tie.Need-flags-requires
 flags-requires c κs = search needs
+
+held-requires : tie.Need-held-requires
+held-requires c κs = search needs
 
 described-requires : tie.Need-described-requires
 described-requires c κs = search needs
 
 returns : tie.Need-returns
-unfolding statusOf flagsOf
-returns c =
-    let f = c .before .before .before .before in
-    let i = f .before .args .incoming .now in
-    let o = entriesOf 32 (f .before .args .outgoing .now) in
-    λ e. simp (c .described .ensures, c .before .flags .ensures, c .before .before .is-incoming .ensures o, f .find-outgoing .ensures i .0, f .find-outgoing .ensures i .1)
+unfolding statusOf
+returns c = rw (c .described .ensures, c .before .held .ensures, c .before .before .flags .ensures, c .before .before .before .standing-of .ensures)
 
 pub of-buffer-spec : {M : Type 1} → statement M
 of-buffer-spec =
     tie.close
     (tie.spec
-    find-outgoing-requires
-    is-incoming-requires
+    standing-of-requires
     flags-requires
+    held-requires
     described-requires
     returns)

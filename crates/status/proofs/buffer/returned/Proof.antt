@@ -1,4 +1,4 @@
--- What `described` promises. Assumes nothing.
+-- The flags of a dequeued buffer are none. Assumes nothing.
 use borrow.Author.Needs.{needs}
 use Rattle.status.specs.Buffer.{returnedOf}
 use Rattle.status.proofs.buffer.returned.Statement.{statement}

@@ -1,11 +1,12 @@
--- The tests in the order of the definition; the queues and the count as their callees promise. Assumes nothing.
-use mathlib.Core.Path.{_≡_}
-use native.Mathlib.Omega.{arith}
-use borrow.Author.Tests.{eq-eqb, ne-eqb}
-use borrow.Author.Needs.{needs}
-use lib.ListN.{length}
+-- The tests in the order of the definition; the queues and the count as the callees promise. Assumes nothing.
+use Rattle.stream.proofs.Ends.{one-handed}
 use Rattle.stream.specs.Calls.{dequeueOf}
-use Rattle.stream.proofs.Tally.{stream-set}
+use Rattle.buffers.proofs.Record.{granted-is}
+use Rattle.buffers.specs.Words.{streamIn}
+use lib.ListN.{length}
+use borrow.Author.Tests.{eq-eqb, ne-eqb}
+use mathlib.Core.Path.{_≡_, sym}
+use borrow.Author.Needs.{needs}
 use Rattle.stream.proofs.calls.dequeue.Statement.{statement}
 use Rattle.stream.proofs.calls.dequeue.Tie as tie
 
@@ -14,20 +15,25 @@ element-copy-out-if1 c = search needs
 
 returns : tie.Need-returns
 unfolding dequeueOf
-returns c = λ i. simp (eq-eqb _ _ (c .if1 .taken))
-
-element-copy-out-if2 : tie.Need-element-copy-out-if2
-element-copy-out-if2 c = search needs
-
-returns-2 : tie.Need-returns-2
-unfolding dequeueOf
-returns-2 c = λ i. simp (ne-eqb _ _ (c .before .before .if1 .left), eq-eqb _ _ (c .if2 .taken))
+returns c = simp (granted-is, eq-eqb _ _ (c .if1 .taken))
 
 oldest-outgoing-requires : tie.Need-oldest-outgoing-requires
 oldest-outgoing-requires c κs = search needs
 
-pop-outgoing-requires : tie.Need-pop-outgoing-requires
-pop-outgoing-requires c κs = search needs
+enum-known-f : tie.Need-enum-known-f
+enum-known-f c = search needs
+
+enum-told : tie.Need-enum-told
+enum-told c = search needs
+
+returns-2 : tie.Need-returns-2
+unfolding dequeueOf
+returns-2 c =
+    let l = c .before .before in
+    simp (granted-is, ne-eqb _ _ (l .before .before .if1 .left), sym (l .oldest-outgoing .ensures), c .enum-told .given .1)
+
+pop-requires : tie.Need-pop-requires
+pop-requires c κs = search needs
 
 element-copy-out-wrapping-add-u64 : tie.Need-element-copy-out-wrapping-add-u64
 element-copy-out-wrapping-add-u64 c = search needs
@@ -35,17 +41,18 @@ element-copy-out-wrapping-add-u64 c = search needs
 wrapping-add-u64-requires : tie.Need-wrapping-add-u64-requires
 wrapping-add-u64-requires c κs = search needs
 
-element-write-tally : tie.Need-element-write-tally
-element-write-tally c = search needs
+element-write-s : tie.Need-element-write-s
+element-write-s c = search needs
 
 returns-3 : tie.Need-returns-3
 unfolding dequeueOf
 returns-3 c =
-    let l = c .before .before .before .before .before .before .before .before .before in
-    let e = l .before .before .before .before .args .tally .now in
-    let long : length e ≡ 8 = search needs in
-    λ i. rw (stream-set e 4 (c .wrapping-add-u64 .result) _ i _ (omega arith))
-    (simp (ne-eqb _ _ (l .before .before .if1 .left), ne-eqb _ _ (l .if2 .left), c .before .before .before .before .before .oldest-outgoing .ensures, c .before .before .pop-outgoing .ensures i, c .wrapping-add-u64 .ensures))
+    let p = c .before .before .before .before in
+    let l = p .before .before .before .before .before in
+    let w = l .before .before .before .before .args .s .now in
+    let long : length (p .pop .last .0) ≡ 208 = search needs in
+    rw (one-handed (p .pop .last .0) (streamIn w) (c .wrapping-add-u64 .result) long (p .pop .ensures) (c .wrapping-add-u64 .ensures))
+    (simp (granted-is, ne-eqb _ _ (l .before .before .if1 .left), sym (l .oldest-outgoing .ensures), p .before .before .before .f .given .1))
 
 pub dequeue-spec : {M : Type 1} → statement M
 dequeue-spec =
@@ -53,11 +60,12 @@ dequeue-spec =
     (tie.spec
     element-copy-out-if1
     returns
-    element-copy-out-if2
-    returns-2
     oldest-outgoing-requires
-    pop-outgoing-requires
+    enum-known-f
+    enum-told
+    returns-2
+    pop-requires
     element-copy-out-wrapping-add-u64
     wrapping-add-u64-requires
-    element-write-tally
+    element-write-s
     returns-3)

@@ -1,6 +1,7 @@
--- Both tests at once, then the grant and the stop. Assumes nothing.
-use borrow.Author.Needs.{needs}
+-- The tests in the order of the definition, then the grant and the stop. Assumes nothing.
 use Rattle.stream.specs.Calls.{requestOf}
+use Rattle.buffers.proofs.Record.{length-is, streaming-is}
+use borrow.Author.Needs.{needs}
 use Rattle.stream.proofs.calls.request_buffers.Statement.{statement}
 use Rattle.stream.proofs.calls.request_buffers.Tie as tie
 
@@ -9,7 +10,7 @@ element-copy-out-if1 c = search needs
 
 returns : tie.Need-returns
 unfolding requestOf
-returns c = λ i o. simp (c .if1 .taken)
+returns c = simp (streaming-is, c .if1 .taken)
 
 element-copy-out-grant : tie.Need-element-copy-out-grant
 element-copy-out-grant c = search needs
@@ -17,13 +18,15 @@ element-copy-out-grant c = search needs
 grant-requires : tie.Need-grant-requires
 grant-requires c κs = search needs
 
+cast-end : tie.Need-cast-end
+cast-end c = search needs
+
 end-requires : tie.Need-end-requires
 end-requires c κs = search needs
 
 returns-2 : tie.Need-returns-2
 unfolding requestOf
-returns-2 c =
-    λ i o. simp (c .before .before .before .before .before .if1 .left, c .end .ensures i o, c .before .before .before .grant .ensures)
+returns-2 c = simp (length-is, streaming-is, c .before .before .before .before .if1 .left, c .end .ensures, c .before .before .grant .ensures)
 
 pub request-buffers-spec : {M : Type 1} → statement M
 request-buffers-spec =
@@ -33,5 +36,6 @@ request-buffers-spec =
     returns
     element-copy-out-grant
     grant-requires
+    cast-end
     end-requires
     returns-2)

@@ -1,11 +1,13 @@
 -- Two stores where a run is on, none where it is not; the queues as `empty` promises. Assumes nothing.
-use mathlib.Core.Path.{_≡_}
+use Rattle.stream.proofs.Ends.{idle-end, run-end}
+use Rattle.buffers.proofs.Record.{stream-set-2, streaming-is}
+use Rattle.buffers.specs.Moves.{emptied}
+use Rattle.buffers.specs.Words.{streamIn}
+use Rattle.buffers.specs.Stream.{Stream, onQueues}
+use lib.ListN.{length}
 use native.Mathlib.Omega.{arith}
-use borrow.Author.Tests.{ne-eqb}
+use mathlib.Core.Path.{_≡_, sym, _∙_, ap}
 use borrow.Author.Needs.{needs}
-use lib.ListN.{length, getD}
-use Rattle.stream.specs.Stream.{stopped}
-use Rattle.stream.proofs.Tally.{stream-set-2}
 use Rattle.stream.proofs.run.end.Statement.{statement}
 use Rattle.stream.proofs.run.end.Tie as tie
 
@@ -16,32 +18,31 @@ empty-requires : tie.Need-empty-requires
 empty-requires c κs = search needs
 
 returns : tie.Need-returns
-unfolding stopped
-returns c = λ i o. simp (c .before .before .if1 .taken, c .empty .ensures i o)
+returns c =
+    let w = c .before .before .before .before .args .s .now in
+    c .empty .ensures ∙ idle-end (streamIn w) (c .before .before .before .before .args .granted) (streaming-is w ∙ c .before .before .if1 .taken)
 
-element-write-tally : tie.Need-element-write-tally
-element-write-tally c = search needs
+outgoing-count-requires : tie.Need-outgoing-count-requires
+outgoing-count-requires c κs = search needs
 
-shared-slice-read-tally : tie.Need-shared-slice-read-tally
-shared-slice-read-tally c = search needs
+element-write-s : tie.Need-element-write-s
+element-write-s c = search needs
 
-cast-tally : tie.Need-cast-tally
-cast-tally c = omega (arith, c .shared-slice-known .given 2)
-
-element-write-tally-2 : tie.Need-element-write-tally-2
-element-write-tally-2 c = search needs
+element-write-s-2 : tie.Need-element-write-s-2
+element-write-s-2 c = search needs
 
 empty-requires-2 : tie.Need-empty-requires-2
 empty-requires-2 c κs = search needs
 
 returns-2 : tie.Need-returns-2
-unfolding stopped
 returns-2 c =
-    let l = c .before .before .before .before .before .before .before in
-    let e = l .before .before .args .tally .now in
-    let d = getD (l .before .before .args .counts .now) 2 0 in
-    let long : length e ≡ 8 = search needs in
-    λ i o. rw (stream-set-2 e 1 0 7 d _ i o (omega arith) (omega arith)) (simp (ne-eqb _ _ (l .if1 .left), c .empty2 .ensures i o))
+    let l = c .before .before .before .before .before .before in
+    let w = l .before .before .args .s .now in
+    let n = c .before .before .before .before .outgoing-count in
+    let long : length w ≡ 208 = search needs in
+    c .empty2 .ensures
+    ∙ ap (λ (x : Stream). onQueues (λ q. emptied (l .before .before .args .granted)) x) (stream-set-2 w 1 0 7 (n .result) long (omega arith) (omega arith))
+    ∙ run-end (streamIn w) (l .before .before .args .granted) (n .result) (λ e. l .if1 .left (sym (streaming-is w) ∙ e)) (n .ensures)
 
 pub end-spec : {M : Type 1} → statement M
 end-spec =
@@ -50,9 +51,8 @@ end-spec =
     element-copy-out-if1
     empty-requires
     returns
-    element-write-tally
-    shared-slice-read-tally
-    cast-tally
-    element-write-tally-2
+    outgoing-count-requires
+    element-write-s
+    element-write-s-2
     empty-requires-2
     returns-2)

@@ -1,22 +1,17 @@
--- The tests in the order of the definition, each as its callee promises. Assumes nothing.
-use mathlib.Core.Path.{ap}
+-- The test of the memory, then the reply, by what it is; a buffer that was taken is not looked for again. Assumes nothing.
+use mathlib.Core.Path.{refl, ap, _∙_}
+use mathlib.Core.Bool.{Bool}
 use denote.Ref.{now}
+use Rattle.status.specs.Buffer.{queuedOf}
+use Rattle.status.proofs.Joined.{queued-status}
+use Rattle.streaming.specs.Streaming.{enqueueReply, qbufOf}
+use Rattle.streaming.proofs.Cases.{is-one, not-one, step-told}
 use borrow.Author.Needs.{needs}
-use Rattle.buffers.specs.Queues.{entriesOf}
-use Rattle.stream.specs.Stream.{streamOf}
-use Rattle.stream.specs.Calls.{Step}
-use Rattle.state.specs.State.{stateOf}
-use Rattle.streaming.specs.Streaming.{qbufOf}
-use Rattle.streaming.proofs.Cases.{is-one, not-one, step-refused, step-done}
-use Rattle.streaming.proofs.Refused.{enqueue-keeps}
 use Rattle.streaming.proofs.calls.qbuf.Statement.{statement}
 use Rattle.streaming.proofs.calls.qbuf.Tie as tie
 
 word-at-requires : tie.Need-word-at-requires
 word-at-requires c κs = search needs
-
-word-at-requires-2 : tie.Need-word-at-requires-2
-word-at-requires-2 c κs = search needs
 
 errno-requires : tie.Need-errno-requires
 errno-requires c κs = search needs
@@ -26,96 +21,119 @@ same-length c = search needs
 
 returns : tie.Need-returns
 unfolding qbufOf
-returns c = λ v e. rw (not-one (c .before .before .word-at2 .ensures) (c .before .if1 .taken), c .errno .ensures)
+returns c = rw (not-one (c .before .before .word-at .ensures) (c .before .if1 .taken), c .errno .ensures)
 
-word-at-requires-3 : tie.Need-word-at-requires-3
-word-at-requires-3 c κs = search needs
+word-at-requires-2 : tie.Need-word-at-requires-2
+word-at-requires-2 c κs = search needs
+
+has-room-requires : tie.Need-has-room-requires
+has-room-requires c κs = search needs
+
+enqueue-requires : tie.Need-enqueue-requires
+enqueue-requires c κs = search needs
+
+enum-told : tie.Need-enum-told
+enum-told c = search needs
+
+queued-requires : tie.Need-queued-requires
+queued-requires c κs = search needs
+
+put-buffer-requires : tie.Need-put-buffer-requires
+put-buffer-requires c κs = search needs
+
+enum-known-why : tie.Need-enum-known-why
+enum-known-why c = search needs
 
 errno-requires-2 : tie.Need-errno-requires-2
 errno-requires-2 c κs = search needs
+
+enum-told-2 : tie.Need-enum-told-2
+enum-told-2 c = search needs
+
+enum-told-3 : tie.Need-enum-told-3
+enum-told-3 c = search needs
 
 same-length-2 : tie.Need-same-length-2
 same-length-2 c = search needs
 
 returns-2 : tie.Need-returns-2
 unfolding qbufOf
-returns-2 c = λ v e.
-    let m = c .before .before in
-    let l = m .before .before .before in
-    rw (is-one (l .word-at2 .ensures) (m .before .before .if1 .left), not-one (m .word-at3 .ensures) (c .before .if2 .taken), c .errno2 .ensures)
-
-enqueue-requires : tie.Need-enqueue-requires
-enqueue-requires c κs = search needs
-
-reply-number-requires : tie.Need-reply-number-requires
-reply-number-requires c κs = search needs
+returns-2 c =
+    let p = c .before .before in
+    let e = p .before .before .before .before .before in
+    let h = e .before .before in
+    let k = h .before .before in
+    let m = k .before .before in
+    let a = m .before .before .before .before .args in
+    let q = p .before .queued in
+    let is = rw (p .before .before .before .enum-told .given .1) at (e .enqueue .ensures) in
+    let told = q .ensures ∙ ap (λ (b : Bool). queuedOf (k .word-at2 .result) b (a .size)) (h .has-room .ensures) ∙ queued-status _ _ (k .word-at2 .result) (a .size) is in
+    rw (is-one (m .before .word-at .ensures) (m .if1 .left))
+    (step-told (rw (k .word-at2 .ensures) at (e .enqueue .ensures)) (λ q z. enqueueReply q z (a .kind) (a .size) (now (a .argument))) _ (p .before .before .before .enum-told .given .1) refl
+    (rw (told, k .word-at2 .ensures) at (p .put-buffer .ensures)))
 
 same-length-3 : tie.Need-same-length-3
 same-length-3 c = search needs
 
 returns-3 : tie.Need-returns-3
 unfolding qbufOf
-returns-3 c = λ v e.
-    let q = c .before .before in
-    let i = q .before .before .before in
-    let m = i .before in
-    let l = m .before .before .before in
-    let k = l .before .before in
-    let a = k .before .before .before .before .args in
-    let t = streamOf e (now (a .counts)) (now (a .incoming)) (entriesOf 32 (now (a .outgoing))) in
-    rw (is-one (l .word-at2 .ensures) (m .before .before .if1 .left), is-one (m .word-at3 .ensures) (i .if2 .left))
-    (step-refused (stateOf (a .s) v t) (now (a .argument)) (rw (k .word-at .ensures) at (q .enqueue .ensures e)) (c .before .reply-number .ensures)
-    (enqueue-keeps t _) (c .if3 .taken) _)
-
-frame-size-requires : tie.Need-frame-size-requires
-frame-size-requires c κs = search needs
-
-of-buffer-requires : tie.Need-of-buffer-requires
-of-buffer-requires c κs = search needs
-
-put-buffer-requires : tie.Need-put-buffer-requires
-put-buffer-requires c κs = search needs
+returns-3 c =
+    let e = c .before .before .before .before in
+    let k = e .before .before .before .before in
+    let m = k .before .before in
+    let a = m .before .before .before .before .args in
+    rw (is-one (m .before .word-at .ensures) (m .if1 .left))
+    (step-told (rw (k .word-at2 .ensures) at (e .enqueue .ensures)) (λ q z. enqueueReply q z (a .kind) (a .size) (now (a .argument))) _ (c .before .before .why .given .1) (c .errno2 .ensures) refl)
 
 same-length-4 : tie.Need-same-length-4
 same-length-4 c = search needs
 
 returns-4 : tie.Need-returns-4
 unfolding qbufOf
-returns-4 c = λ v e.
-    let p = c .before .before in
-    let f = p .before .before in
-    let n = f .before .before .before .before in
-    let q = n .before .before in
-    let i = q .before .before .before in
-    let m = i .before in
-    let l = m .before .before .before in
-    let k = l .before .before in
-    let a = k .before .before .before .before .args in
-    let t = streamOf e (now (a .counts)) (now (a .incoming)) (entriesOf 32 (now (a .outgoing))) in
-    let g = rw (k .word-at .ensures) at (q .enqueue .ensures e) in
-    rw (is-one (l .word-at2 .ensures) (m .before .before .if1 .left), is-one (m .word-at3 .ensures) (i .if2 .left))
-    (step-done (stateOf (a .s) v t) (now (a .argument)) g (n .before .reply-number .ensures) (n .if3 .left)
-    (rw (p .before .of-buffer .ensures e, f .frame-size .ensures v t, ap (λ (x : Step). x .stream) g, k .word-at .ensures) at (p .put-buffer .ensures)))
+returns-4 c =
+    let e = c .before .before in
+    let k = e .before .before .before .before in
+    let m = k .before .before in
+    let a = m .before .before .before .before .args in
+    rw (is-one (m .before .word-at .ensures) (m .if1 .left))
+    (step-told (rw (k .word-at2 .ensures) at (e .enqueue .ensures)) (λ q z. enqueueReply q z (a .kind) (a .size) (now (a .argument))) _ (c .enum-told2 .given .1) refl refl)
+
+same-length-5 : tie.Need-same-length-5
+same-length-5 c = search needs
+
+returns-5 : tie.Need-returns-5
+unfolding qbufOf
+returns-5 c =
+    let e = c .before .before in
+    let k = e .before .before .before .before in
+    let m = k .before .before in
+    let a = m .before .before .before .before .args in
+    rw (is-one (m .before .word-at .ensures) (m .if1 .left))
+    (step-told (rw (k .word-at2 .ensures) at (e .enqueue .ensures)) (λ q z. enqueueReply q z (a .kind) (a .size) (now (a .argument))) _ (c .enum-told3 .given .1) refl refl)
 
 pub qbuf-spec : {M : Type 1} → statement M
 qbuf-spec =
     tie.close
     (tie.spec
     word-at-requires
-    word-at-requires-2
     errno-requires
     same-length
     returns
-    word-at-requires-3
+    word-at-requires-2
+    has-room-requires
+    enqueue-requires
+    enum-told
+    queued-requires
+    put-buffer-requires
+    enum-known-why
     errno-requires-2
+    enum-told-2
+    enum-told-3
     same-length-2
     returns-2
-    enqueue-requires
-    reply-number-requires
     same-length-3
     returns-3
-    frame-size-requires
-    of-buffer-requires
-    put-buffer-requires
     same-length-4
-    returns-4)
+    returns-4
+    same-length-5
+    returns-5)

@@ -1,0 +1,68 @@
+//! How the two sides are called: as a program calls a library, by a call that stays a call.
+
+use tollgutter_tests::recorder::{Arrived, Recorder};
+use tollgutter_tests::{ffi, model};
+
+/// A device and its three calls that are measured.
+pub trait Called: Recorder {
+    fn call_open(&mut self, sheet: &[u8], picture_length: u64) -> u32;
+    fn call_request(&mut self, word: u32, argument: &mut [u8]) -> u32;
+    fn call_arrival(&mut self, memory: &mut [u8], frame: &[u8], seconds: i32, microseconds: i32) -> Arrived;
+}
+
+// The library comes as an archive, so that its functions are called in any case.
+impl Called for ffi::Device {
+    #[inline(always)]
+    fn call_open(&mut self, sheet: &[u8], picture_length: u64) -> u32 {
+        self.open(sheet, picture_length)
+    }
+
+    #[inline(always)]
+    fn call_request(&mut self, word: u32, argument: &mut [u8]) -> u32 {
+        self.request(word, argument)
+    }
+
+    #[inline(always)]
+    fn call_arrival(&mut self, memory: &mut [u8], frame: &[u8], seconds: i32, microseconds: i32) -> Arrived {
+        self.arrival(memory, frame, seconds, microseconds)
+    }
+}
+
+// Inlined into the loop of a batch, the model would be the model for one word only.
+impl Called for model::Device {
+    #[inline(always)]
+    fn call_open(&mut self, sheet: &[u8], picture_length: u64) -> u32 {
+        rust_open(self, sheet, picture_length)
+    }
+
+    #[inline(always)]
+    fn call_request(&mut self, word: u32, argument: &mut [u8]) -> u32 {
+        rust_request(self, word, argument)
+    }
+
+    #[inline(always)]
+    fn call_arrival(&mut self, memory: &mut [u8], frame: &[u8], seconds: i32, microseconds: i32) -> Arrived {
+        rust_arrival(self, memory, frame, seconds, microseconds)
+    }
+}
+
+#[inline(never)]
+fn rust_open(device: &mut model::Device, sheet: &[u8], picture_length: u64) -> u32 {
+    Recorder::open(device, sheet, picture_length)
+}
+
+#[inline(never)]
+fn rust_request(device: &mut model::Device, word: u32, argument: &mut [u8]) -> u32 {
+    device.request(word, argument)
+}
+
+#[inline(never)]
+fn rust_arrival(
+    device: &mut model::Device,
+    memory: &mut [u8],
+    frame: &[u8],
+    seconds: i32,
+    microseconds: i32,
+) -> Arrived {
+    device.arrival(memory, frame, seconds, microseconds)
+}
