@@ -1,4 +1,4 @@
--- Demand 3 holds.
+-- Demand 3 of our device and its memory.
 use mathlib.Core.Path.{_≡_, refl, sym, ap, _∙_, subst}
 use mathlib.Core.Bool.{Bool, true, false, cond, true≢false, false≢true}
 use Prim.Native.Nat.{ℕ, _+_, _^_, _≤_, _<_}
@@ -38,15 +38,14 @@ use Rattle.history.proofs.Order.{At, Leaves, pairOf, comes-first, leaves}
 use Rattle.history.proofs.Machine.{leaves-append, noted-tells, Cut, cut, keeps-after, legal-tells}
 use Rattle.history.proofs.InOrder.{isWhole, never}
 use Rattle.history.proofs.Meanings.{Means, exactly}
-use Rattle.claims.specs.Calls.{Call, Box, opened, timeOf, asks, arrives, reply, next, after}
 use Rattle.claims.specs.Calls.Call.{request, arrival}
 use Rattle.claims.specs.Calls.Reply.{answered, taken}
-use Rattle.claims.specs.Words.{requestTold, told, events}
-use Rattle.claims.specs.Demands.{Verdicts}
-use Rattle.claims.specs.Claims.{openingSize, paperAfter, handedAfter, boxAfter, StoredInIt, Arrival, ReturnedWithIt, Demand3}
 use Rattle.claims.proofs.Steps.{view, Timed, Safe, Foretold}
 use Rattle.claims.proofs.Open.{fits-next, foretold-next, safe-next}
 use Rattle.claims.proofs.Shut.{Shut, shut-request, shut-after, closed-shut, Begun, begins}
+use Rattle.claims.specs.Calls.{Call, timeOf}
+use Rattle.claims.proofs.Boxes.{Box, opened, asks, arrives, reply, next, after, events, paperAfter, handedAfter, boxAfter, StoredInIt, Arrival, ReturnedWithIt}
+use Rattle.claims.specs.Words.{requestTold, told, openingSize}
 
 -- ---- at one moment
 
@@ -310,22 +309,20 @@ module _ (s m : List ℕ) (start : opened s m .state ≡ closedState) where
       rw (shut-at cs) (subst (λ (p : Paper). (Blank ≡ v) ⇔ Means p (handedAfter s m cs) v) (sym (closed-at cs .1)) (only-blank (openingSize s) (handedAfter s m cs) v))
 
 -- each verdict, of any device
-verdict-means : (s m : List ℕ) (cs : List Call) (v : Verdict) → (deviceVerdict (boxAfter s m cs .state) ≡ v) ⇔ Means (paperAfter s m cs) (handedAfter s m cs) v
+pub verdict-means : (s m : List ℕ) (cs : List Call) (v : Verdict) → (deviceVerdict (boxAfter s m cs .state) ≡ v) ⇔ Means (paperAfter s m cs) (handedAfter s m cs) v
 verdict-means s m cs v = go (begins s m)
   where
     go : Begun s m → (deviceVerdict (boxAfter s m cs .state) ≡ v) ⇔ Means (paperAfter s m cs) (handedAfter s m cs) v
     go (Begun.safe x) = open-verdict s m x cs v
     go (Begun.shut x) = shut-verdict s m x cs v
 
-pub verdicts-told : Verdicts
-verdicts-told s m cs = (verdict-means s m cs Running, verdict-means s m cs Blank, verdict-means s m cs Gaps, verdict-means s m cs Complete)
-
-pub demand-3 : Demand3
-demand-3 s m cs = (go (begins s m), verdict-means s m cs Complete)
+-- for every QBUF both halves hold
+pub demand-3 : (s m : List ℕ) (before : List Call) (w : ℕ) (a : List ℕ) (mid : List Call) → StoredInIt s m before w a mid × ReturnedWithIt s m before w a mid
+demand-3 s m before w a mid = go (begins s m)
   where
-    go : Begun s m → (before : List Call) (w : ℕ) (a : List ℕ) (mid : List Call) → cs ≡ before ++ request w a ∷ mid → StoredInIt s m before w a mid × ReturnedWithIt s m before w a mid
-    go (Begun.safe x) before w a mid e = (stored-in-it s m x before w a mid, returned-with-it s m x before w a mid)
-    go (Begun.shut x) before w a mid e = (
+    go : Begun s m → StoredInIt s m before w a mid × ReturnedWithIt s m before w a mid
+    go (Begun.safe x) = (stored-in-it s m x before w a mid, returned-with-it s m x before w a mid)
+    go (Begun.shut x) = (
       λ f y z other (q, (b, h), c) n t. never-accepted s m x before w a b h,
       λ v g b (q, (b2, h), c) n d t. never-accepted s m x before w a b2 h,
     )

@@ -1,8 +1,8 @@
--- Demand 2: trying a format predicts what setting it gives.
+-- Trying, setting and getting a format.
 use mathlib.Core.Path.{_≡_, refl, sym, ap, _∙_}
 use mathlib.Core.Bool.{Bool, true, false, cond, not}
 use Prim.Native.Nat.{ℕ}
-use borrow.Author.Tests.{eqb-true, eq-eqb}
+use borrow.Author.Tests.{eqb-true}
 use native.Mathlib.Omega.{arith}
 use lib.Dec.{eqb}
 use mathlib.Core.List.{List}
@@ -12,7 +12,7 @@ use Rattle.wire.specs.Words.{wordAt}
 use Rattle.wire.proofs.Stores.{sets-all}
 use Rattle.ioctl.specs.Table.{argumentSize, requestOf}
 use Rattle.ioctl.specs.declared.table.Call.{Call}
-use Rattle.ioctl.specs.declared.table.Call.the-variants.{TryFmt}
+use Rattle.ioctl.specs.declared.table.Call.the-variants.{SFmt, TryFmt, GFmt}
 use Rattle.ioctl.proofs.Numbers.{errno-positive}
 use Rattle.ioctl.specs.declared.refusals.Refusal.{Refusal}
 use Rattle.ioctl.specs.declared.refusals.Refusal.the-variants.{ArgumentLength, Closed, UnknownWord, WrongType, BuffersExist}
@@ -24,7 +24,6 @@ use Rattle.state.specs.State.{withFormat}
 use Rattle.state.specs.Answers.{Answer, done, refused}
 use Rattle.settings.specs.Settings.{gFmtOf, sFmtOf, tryFmtOf, toldFormat}
 use Rattle.requests.specs.Request.{callAnswer, requestAnswer}
-use Rattle.claims.specs.Demands.{Demand2}
 
 -- a request that is accepted got to its call, with an argument of its length
 pub record Reached (s : List ℕ) (d : State) (w : ℕ) (a : List ℕ) : Type 0 where
@@ -46,16 +45,10 @@ reached s d w a h = go (eqb (d .ready) 0) refl (eqb (requestOf w .size) 0) refl 
     go false e false f false g h = absurd (omega (arith, h))
     go false e false f true g h = record { ready = e; long = eqb-true (length a) (requestOf w .size) g; is = rw (e, f, g) }
 
--- an open device, a word of this call and an argument of its length get to the call
-reaches : (s : List ℕ) (d : State) (w : ℕ) (a : List ℕ) (call : Call) → requestOf w .call ≡ call → eqb (argumentSize call) 0 ≡ false
-    → eqb (d .ready) 0 ≡ false → length a ≡ argumentSize call → requestAnswer s d w a ≡ callAnswer call s d a
-unfolding requestAnswer requestOf
-reaches s d w a call e n r l = rw (r, e, n, eq-eqb (length a) (argumentSize call) l)
-
 -- ---- the three calls
 
 -- a test that is passed
-passed : (x : Bool) (why : Refusal) (d : State) (a : List ℕ) (r : Answer) → cond x (refused why d a) r .number ≡ 0 → x ≡ false
+pub passed : (x : Bool) (why : Refusal) (d : State) (a : List ℕ) (r : Answer) → cond x (refused why d a) r .number ≡ 0 → x ≡ false
 passed true why d a r h = absurd (omega (arith, errno-positive why, h))
 passed false why d a r h = refl
 
@@ -64,7 +57,7 @@ stays : (x : Bool) (why : Refusal) (d : State) (a : List ℕ) (r : Answer) → r
 stays true why d a r e = refl
 stays false why d a r e = e
 
-try-stays : (s : List ℕ) (d : State) (w : ℕ) (a : List ℕ) → requestOf w .call ≡ TryFmt → requestAnswer s d w a .state ≡ d
+pub try-stays : (s : List ℕ) (d : State) (w : ℕ) (a : List ℕ) → requestOf w .call ≡ TryFmt → requestAnswer s d w a .state ≡ d
 unfolding requestAnswer tryFmtOf
 try-stays s d w a e =
     stays (eqb (d .ready) 0) Closed d a _
@@ -88,7 +81,7 @@ module _ (s : List ℕ) (d : State) (a : List ℕ) where
       go false e true h = absurd (omega (arith, h))
       go false e false h = (refl, refl)
 
-  try-answers : not (eqb (wordAt a 0) 1) ≡ false → tryFmtOf s d a ≡ done d (sets a 0 (toldFormat s (negotiated s (askedFormat a))))
+  pub try-answers : not (eqb (wordAt a 0) 1) ≡ false → tryFmtOf s d a ≡ done d (sets a 0 (toldFormat s (negotiated s (askedFormat a))))
   unfolding tryFmtOf
   try-answers h = rw h
 
@@ -97,35 +90,19 @@ module _ (s : List ℕ) (d : State) (a : List ℕ) where
   unfolding gFmtOf
   get-answers h l = rw (passed (not (eqb (wordAt a 0) 1)) WrongType d a _ h) (sets-all (formatReply 1 (d .format) (d .line) (d .size)) a (l ∙ sym (reply-length 1 (d .format) (d .line) (d .size))))
 
-pub demand-2 : Demand2
-demand-2 s d t u g a b et eu eg =
-    (try-stays s d t a et, λ h. tried h, λ h k. got h k)
-  where
-    set-is : requestAnswer s d u a .number ≡ 0 → requestAnswer s d u a ≡ sFmtOf s d a
-    set-is h = reached s d u a h .is ∙ ap (λ (call : Call). callAnswer call s d a) eu
-
-    long : requestAnswer s d u a .number ≡ 0 → length a ≡ 204
-    long h = reached s d u a h .long ∙ ap argumentSize eu
-
-    set-does : (h : requestAnswer s d u a .number ≡ 0)
-        → (not (eqb (wordAt a 0) 1) ≡ false) × (requestAnswer s d u a ≡ done (withFormat s d (negotiated s (askedFormat a))) (sets a 0 (toldFormat s (negotiated s (askedFormat a)))))
-    set-does h = let (x, y) = set-accepted s d a (ap (λ (r : Answer). r .number) (sym (set-is h)) ∙ h) in (x, set-is h ∙ y)
-
-    tried : requestAnswer s d u a .number ≡ 0 → (requestAnswer s d t a .number ≡ 0) × (requestAnswer s d t a .argument ≡ requestAnswer s d u a .argument)
-    tried h =
-        let (x, y) = set-does h in
-        let z : requestAnswer s d t a ≡ done d (sets a 0 (toldFormat s (negotiated s (askedFormat a)))) =
-        reaches s d t a TryFmt et refl (reached s d u a h .ready) (long h) ∙ try-answers s d a x in
-        (ap (λ (r : Answer). r .number) z, ap (λ (r : Answer). r .argument) z ∙ sym (ap (λ (r : Answer). r .argument) y))
-
-    got : requestAnswer s d u a .number ≡ 0 → requestAnswer s (requestAnswer s d u a .state) g b .number ≡ 0
-        → requestAnswer s (requestAnswer s d u a .state) g b .argument ≡ requestAnswer s d u a .argument
-    got h k =
-        let (x, y) = set-does h in
-        let e : State = requestAnswer s d u a .state in
-        let q : Reached s e g b = reached s e g b k in
-        let is : requestAnswer s e g b ≡ gFmtOf e b = q .is ∙ ap (λ (call : Call). callAnswer call s e b) eg in
-        ap (λ (r : Answer). r .argument) is
-        ∙ get-answers s e b (ap (λ (r : Answer). r .number) (sym is) ∙ k) (q .long ∙ ap argumentSize eg)
-        ∙ ap (λ (r : Answer). formatReply 1 (r .state .format) (r .state .line) (r .state .size)) y
-        ∙ sym (ap (λ (r : Answer). r .argument) y ∙ sets-all (toldFormat s (negotiated s (askedFormat a))) a (long h ∙ sym (reply-length 1 (negotiated s (askedFormat a)) _ _)))
+-- an accepted G_FMT right after an accepted S_FMT gives the same argument
+pub got-set : (s : List ℕ) (d : State) (u g : ℕ) (a b : List ℕ) → requestOf u .call ≡ SFmt → requestOf g .call ≡ GFmt
+    → requestAnswer s d u a .number ≡ 0 → requestAnswer s (requestAnswer s d u a .state) g b .number ≡ 0
+    → requestAnswer s (requestAnswer s d u a .state) g b .argument ≡ requestAnswer s d u a .argument
+got-set s d u g a b eu eg h k =
+    let r : Reached s d u a = reached s d u a h in
+    let is : requestAnswer s d u a ≡ sFmtOf s d a = r .is ∙ ap (λ (call : Call). callAnswer call s d a) eu in
+    let y : requestAnswer s d u a ≡ done (withFormat s d (negotiated s (askedFormat a))) (sets a 0 (toldFormat s (negotiated s (askedFormat a)))) =
+    is ∙ set-accepted s d a (ap (λ (x : Answer). x .number) (sym is) ∙ h) .1 in
+    let e : State = requestAnswer s d u a .state in
+    let q : Reached s e g b = reached s e g b k in
+    let gets : requestAnswer s e g b ≡ gFmtOf e b = q .is ∙ ap (λ (call : Call). callAnswer call s e b) eg in
+    ap (λ (x : Answer). x .argument) gets
+    ∙ get-answers s e b (ap (λ (x : Answer). x .number) (sym gets) ∙ k) (q .long ∙ ap argumentSize eg)
+    ∙ ap (λ (x : Answer). formatReply 1 (x .state .format) (x .state .line) (x .state .size)) y
+    ∙ sym (ap (λ (x : Answer). x .argument) y ∙ sets-all (toldFormat s (negotiated s (askedFormat a))) a (r .long ∙ ap argumentSize eu ∙ sym (reply-length 1 (negotiated s (askedFormat a)) _ _)))

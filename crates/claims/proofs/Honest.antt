@@ -1,10 +1,10 @@
 -- A refusal changes nothing, and every answer has a number of the table.
-use mathlib.Core.Path.{_≡_, refl, ap, _∙_}
+use mathlib.Core.Path.{_≡_, refl, ap}
 use mathlib.Core.Logic.{_≢_}
-use mathlib.Core.Bool.{Bool, true, false, cond, not, _||_}
+use mathlib.Core.Bool.{Bool, true, false, cond, not}
 use Prim.Native.Nat.{ℕ}
 use lib.Dec.{eqb, leb}
-use mathlib.Core.List.{List, [], _∷_}
+use mathlib.Core.List.{List}
 use lib.ListN.{length, set}
 use lib.Seq.{sets, length-sets}
 use Rattle.wire.specs.Words.{wordAt}
@@ -14,7 +14,6 @@ use Rattle.ioctl.specs.declared.refusals.Refusal.{Refusal}
 use Rattle.ioctl.specs.declared.refusals.Refusal.the-variants.{ArgumentLength, Closed, UnknownWord, WrongType, NoSuchIndex, NoSuchControl, BuffersExist}
 use Rattle.ioctl.specs.declared.table.Call.{Call}
 use Rattle.ioctl.specs.declared.table.Call.the-variants.{Unknown, Querycap, EnumFmt, GFmt, SFmt, TryFmt, Reqbufs, Querybuf, Qbuf, Dqbuf, Streamon, Streamoff, GCtrl, SCtrl, Queryctrl, Cropcap, GCrop, SCrop}
-use Rattle.ioctl.proofs.Numbers.{errno-known}
 use Rattle.fields.specs.Fields.{formatCount}
 use Rattle.control.specs.Find.{present, queriedPlace}
 use Rattle.control.specs.Values.{reading, settingOf}
@@ -33,9 +32,6 @@ use Rattle.controls.specs.Controls.{queryctrlOf, gCtrlOf, sCtrlOf, readAs, setA
 use Rattle.streaming.specs.Streaming.{StreamAnswer}
 use Rattle.streaming.proofs.Refused.{HonestStream, reqbufs-honest, querybuf-honest, qbuf-honest, dqbuf-honest, streamon-honest, streamoff-honest}
 use Rattle.requests.specs.Request.{byStream, callAnswer, requestAnswer}
-use Rattle.claims.specs.Refusals.{Check, firstNumber, requestChecks}
-use Rattle.claims.specs.Demands.{known, RequestAnswered}
-use Rattle.claims.proofs.Table.{request-table}
 
 -- a refusal changes nothing, and the argument keeps its length
 pub record Honest (d : State) (a : List ℕ) (r : Answer) : Type 0 where
@@ -97,21 +93,3 @@ module _ (d : State) (a : List ℕ) where
   honest-request s w =
       honest-check (eqb (d .ready) 0) Closed _
       (honest-check (eqb (requestOf w .size) 0) UnknownWord _ (honest-check (not (eqb (length a) (requestOf w .size))) ArgumentLength _ (honest-call s (requestOf w .call))))
-
--- the number of a table is 0 or one that a refusal can give
-pub first-known : (cs : List Check) → known (firstNumber cs) ≡ true
-first-known [] = refl
-first-known (c ∷ cs) = go (c .holds) (first-known cs)
-  where
-    right : (x : Bool) → (x || true) ≡ true
-    right true = refl
-    right false = refl
-
-    go : (x : Bool) → known (firstNumber cs) ≡ true → known (cond x (errnoOf (c .why)) (firstNumber cs)) ≡ true
-    go true h = ap (λ (y : Bool). eqb (errnoOf (c .why)) 0 || y) (errno-known (c .why)) ∙ right (eqb (errnoOf (c .why)) 0)
-    go false h = h
-
-pub request-answered : RequestAnswered
-request-answered s d w a =
-    let h : Honest d a (requestAnswer s d w a) = honest-request d a s w in
-    (request-table s d a w, ap known (request-table s d a w) ∙ first-known (requestChecks s d w a), h .unchanged, h .long)

@@ -28,11 +28,12 @@ use Rattle.history.specs.Paper.Event.{put, whole, damaged, handed, begun, ended
 use Rattle.history.proofs.Lists.{All, all-snoc}
 use Rattle.history.proofs.Sound.{Fits, sound-step}
 use Rattle.history.proofs.Tied.{Tied, Answers, follows}
-use Rattle.claims.specs.Calls.{Call, Box, timeOf, asks, lent, arrives, reply, next}
 use Rattle.claims.specs.Calls.Call.{request, arrival}
 use Rattle.claims.specs.Calls.Reply.{taken}
-use Rattle.claims.specs.Words.{arrivalTold, told}
 use Rattle.claims.proofs.Steps.{view, Timed, Sized, Safe, Foretold, Timely, Does, does-request}
+use Rattle.claims.specs.Calls.{Call, timeOf}
+use Rattle.claims.proofs.Boxes.{Box, asks, lent, arrives, reply, next}
+use Rattle.claims.specs.Words.{arrivalTold, told}
 
 -- What a call does.
 pub record Goes (b : Box) (p : Paper) (c : Call) : Type 0 where
@@ -49,7 +50,7 @@ pub record Goes (b : Box) (p : Paper) (c : Call) : Type 0 where
 -- ---- a frame arrives
 
 -- a whole picture is no longer than the image size
-whole-short : (n size : ℕ) (t : Time) → (wholePicture n size t && leb n size) ≡ wholePicture n size t
+pub whole-short : (n size : ℕ) (t : Time) → (wholePicture n size t && leb n size) ≡ wholePicture n size t
 unfolding wholePicture
 whole-short n size t = go (inSecond (t .microseconds)) (eqb n size) refl
   where
@@ -71,7 +72,7 @@ timed-of x y = (signed-fits (x % 2 ^ 32) (omega arith), signed-fits (y % 2 ^ 32)
 
 module _ (b : Box) (p : Paper) (safe : Safe b p) (f : List ℕ) (x y : ℕ) (other : List ℕ) where
   -- an open device hands the picture to its stream
-  open-taken : (l : ℕ) → takenOf (b .state) l (length f) (timeOf x y)
+  pub open-taken : (l : ℕ) → takenOf (b .state) l (length f) (timeOf x y)
       ≡ record {
         arrival = pictureArrives (b .state) l (length f) (timeOf x y) .arrival;
         state = withStream (b .state) (pictureArrives (b .state) l (length f) (timeOf x y) .stream);

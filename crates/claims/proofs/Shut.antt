@@ -26,12 +26,12 @@ use Rattle.history.specs.Paper.Event.{idle}
 use Rattle.history.proofs.Sound.{sound-blank}
 use Rattle.history.proofs.Tied.{tied-opened}
 use Rattle.history.proofs.Machine.{keeps-after}
-use Rattle.claims.specs.Calls.{Call, Box, opened, reply, next, after}
 use Rattle.claims.specs.Calls.Call.{request, arrival}
 use Rattle.claims.specs.Calls.Reply.{answered}
-use Rattle.claims.specs.Words.{told, events}
-use Rattle.claims.specs.Claims.{openingSize}
 use Rattle.claims.proofs.Steps.{Safe}
+use Rattle.claims.specs.Calls.{Call}
+use Rattle.claims.proofs.Boxes.{Box, opened, reply, next, after, events}
+use Rattle.claims.specs.Words.{told, openingSize}
 
 -- ---- closed
 
@@ -80,21 +80,21 @@ pub data Begun (s m : List ℕ) : Type 0 where
   shut : opened s m .state ≡ closedState → Begun s m
 
 -- the device that an opening gave, with its memory
-abbrev boxOf : Opened → List ℕ → Box
+abbrev pub boxOf : Opened → List ℕ → Box
 boxOf o m = record { sheet = o .device .sheet; state = o .device .state; memory = m }
 
-abbrev goodOpening : List ℕ → ℕ → Opened
+abbrev pub goodOpening : List ℕ → ℕ → Opened
 goodOpening s n = record { number = 0; device = record { sheet = keptOf s; state = openingState (keptOf s) n } }
 
 -- an opening by its two tests
-opening-by : (s : List ℕ) (n : ℕ) (x y : Bool) → goodSheet s ≡ x → ltb longestMemory n ≡ y
+pub opening-by : (s : List ℕ) (n : ℕ) (x y : Bool) → goodSheet s ≡ x → ltb longestMemory n ≡ y
     → openedOf s n ≡ cond (not x) (closedBy BadSheet) (cond y (closedBy MemoryTooLong) (goodOpening s n))
 unfolding openedOf
 opening-by s n x y e f =
     ap (λ (v : Bool). cond (not v) (closedBy BadSheet) (cond (ltb longestMemory n) (closedBy MemoryTooLong) (goodOpening s n))) e
     ∙ ap (λ (v : Bool). cond (not x) (closedBy BadSheet) (cond v (closedBy MemoryTooLong) (goodOpening s n))) f
 
-closed-state : (why : Refusal) (m : List ℕ) → boxOf (closedBy why) m .state ≡ closedState
+pub closed-state : (why : Refusal) (m : List ℕ) → boxOf (closedBy why) m .state ≡ closedState
 unfolding closedBy
 closed-state why m = refl
 
@@ -103,7 +103,7 @@ pub closed-shut : (b : Box) → b .state ≡ closedState → Shut b
 unfolding closedState
 closed-shut b e = ap (λ (d : State). eqb (d .ready) 0) e
 
-good-safe : (s m : List ℕ) → goodSheet s ≡ true → ltb longestMemory (length m) ≡ false → Safe (boxOf (goodOpening s (length m)) m) (blank (openingSize s))
+pub good-safe : (s m : List ℕ) → goodSheet s ≡ true → ltb longestMemory (length m) ≡ false → Safe (boxOf (goodOpening s (length m)) m) (blank (openingSize s))
 unfolding openingState
 good-safe s m good short =
     let z : ℕ = openingState (keptOf s) (length m) .size in

@@ -63,8 +63,9 @@ use Rattle.history.proofs.Lists.{All}
 use Rattle.history.proofs.Sound.{Fits}
 use Rattle.history.proofs.Tied.{Tied, Answers, Follows, placedAs, firstOf, follows}
 use Rattle.history.proofs.Every.{Kept}
-use Rattle.claims.specs.Calls.{Box, Reply}
 use Rattle.claims.specs.Calls.Reply.{answered, taken}
+use Rattle.claims.specs.Calls.{Reply}
+use Rattle.claims.proofs.Boxes.{Box}
 use Rattle.claims.specs.Words.{requestTold}
 
 -- the stream of a device, its image size and its memory
@@ -193,11 +194,11 @@ module _ (b : Box) (p : Paper) (call : Asked) (a : List ℕ) (safe : Safe b p) w
 -- ---- each call
 
 -- the argument of a call has the length of its reply, so the reply is all of it
-whole-reply : (a v : List ℕ) (n : ℕ) → length a ≡ n → length v ≡ n → sets a 0 v ≡ v
+pub whole-reply : (a v : List ℕ) (n : ℕ) → length a ≡ n → length v ≡ n → sets a 0 v ≡ v
 whole-reply a v n e f = sets-all v a (e ∙ sym f)
 
 -- the count that REQBUFS answers is the one that the stream granted
-told-count : (s : Stream) (n size : ℕ) (a : List ℕ) → length a ≡ 20 → refusedReply (bufferRequest s n size .reply) ≡ false
+pub told-count : (s : Stream) (n size : ℕ) (a : List ℕ) → length a ≡ 20 → refusedReply (bufferRequest s n size .reply) ≡ false
     → wordAt (requestReply (bufferRequest s n size .reply) 1 a) 0 ≡ grantIn (bufferRequest s n size .reply)
 unfolding bufferRequest
 told-count s n size a l = go (streaming s && not (eqb n 0))
@@ -322,7 +323,7 @@ module _ (b : Box) (p : Paper) (a : List ℕ) (safe : Safe b p) where
   does-set settings.Pressed id = still SCtrl (b .state) a (safe .ready) (safe .sized) refl refl
   does-set (settings.Refused why) id = refuses-for b p SCtrl a safe why
 
-  does-call : (call : Asked) → length a ≡ argumentSize call → Does b p call a (callAnswer call (b .sheet) (b .state) a)
+  pub does-call : (call : Asked) → length a ≡ argumentSize call → Does b p call a (callAnswer call (b .sheet) (b .state) a)
   unfolding querycapOf enumFmtOf gFmtOf tryFmtOf querybufOf gCtrlOf sCtrlOf queryctrlOf cropcapOf gCropOf sCropOf
   does-call Unknown l = refuses-for b p Unknown a safe UnknownWord
   does-call Querycap l = still Querycap (b .state) _ (safe .ready) (safe .sized) refl refl

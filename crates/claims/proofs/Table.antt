@@ -29,7 +29,8 @@ use Rattle.settings.specs.Settings.{querycapOf, enumFmtOf, gFmtOf, sFmtOf, tryF
 use Rattle.controls.specs.Controls.{queryctrlOf, gCtrlOf, sCtrlOf, readAs, setAs}
 use Rattle.streaming.proofs.Numbers.{reqbufs-number, querybuf-number, qbuf-number, dqbuf-number, streamon-number, streamoff-number}
 use Rattle.requests.specs.Request.{callAnswer, requestAnswer}
-use Rattle.claims.specs.Refusals.{firstNumber, named, outOfRange, checks, requestChecks}
+use Rattle.claims.specs.Table.{firstNumber, named, outOfRange}
+use Rattle.claims.proofs.Checks.{checks, requestChecks}
 
 -- a test before the rest: its number, or that of the rest
 after-check : (x : Bool) (why : Refusal) (d : State) (a : List ℕ) (r : Answer) (n : ℕ) → r .number ≡ n → cond x (refused why d a) r .number ≡ cond x (errnoOf why) n

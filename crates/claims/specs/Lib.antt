@@ -1,5 +1,9 @@
 pub mod Calls
-pub mod Claims
-pub mod Demands
-pub mod Refusals
+pub mod Machine
 pub mod Words
+pub mod Table
+pub mod Desk
+pub mod Answers
+pub mod Meets
+pub mod Device
+pub mod NoRoom

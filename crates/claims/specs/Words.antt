@@ -1,7 +1,7 @@
--- The words of demand 3, told from the calls, their arguments and what is given back: never from the state.
+-- The paper: what a list of calls tells, by the calls, their arguments and what is given back.
 use Prim.Native.Nat.{ℕ}
 use mathlib.Core.Bool.{cond}
-use mathlib.Core.List.{List}
+use mathlib.Core.List.{List, []}
 use lib.Dec.{eqb}
 use lib.ListN.{length}
 use Rattle.wire.specs.Words.{wordAt}
@@ -9,11 +9,15 @@ use Rattle.ioctl.specs.Table.{requestOf}
 use Rattle.ioctl.specs.declared.table.Call.{Call as Asked}
 use Rattle.ioctl.specs.declared.table.Call.the-variants.{Unknown, Querycap, EnumFmt, GFmt, SFmt, TryFmt, Reqbufs, Querybuf, Qbuf, Dqbuf, Streamon, Streamoff, GCtrl, SCtrl, Queryctrl, Cropcap, GCrop, SCrop}
 use Rattle.arrival.specs.Picture.{wholePicture}
-use Rattle.history.specs.Paper.{Paper, Event, refusedArrival, tells}
+use Rattle.geometry.specs.Geometry.{lineAlignment}
+use Rattle.format.specs.Size.{imageSize}
+use Rattle.negotiation.specs.Negotiation.{openingFormat}
+use Rattle.history.specs.Paper.{Paper, Event, blank, noted, handedOver, refusedArrival, tells}
 use Rattle.history.specs.Paper.Event.{put, whole, damaged, handed, begun, ended, sized, idle}
-use Rattle.claims.specs.Calls.{Call, Reply, Box, timeOf, reply, next}
+use Rattle.claims.specs.Calls.{Call, Reply, timeOf}
 use Rattle.claims.specs.Calls.Call.{request, arrival}
 use Rattle.claims.specs.Calls.Reply.{answered, taken}
+use Rattle.claims.specs.Machine.{Session, more, replyIn}
 
 -- what an accepted request means, by its argument before and after
 abbrev pub requestTold : Paper → Asked → List ℕ → List ℕ → Event
@@ -46,6 +50,7 @@ requestTold p SCrop a b = idle
 abbrev pub arrivalTold : Paper → List ℕ → ℕ → ℕ → Event
 arrivalTold p f x y = cond (wholePicture (length f) (p .size) (timeOf x y)) (whole f (timeOf x y)) damaged
 
+-- with a second stream: a paper for each type, on which a call that names another type tells nothing (idle)
 -- a request is accepted if it is answered 0, an arrival if it is made in a run and not refused
 abbrev pub told : Paper → Call → Reply → Event
 told p (request w a) (answered n b) = cond (eqb n 0) (requestTold p (requestOf w .call) a b) idle
@@ -53,6 +58,18 @@ told p (request w a) (taken x) = idle
 told p (arrival f x y other) (answered n b) = idle
 told p (arrival f x y other) (taken r) = cond (refusedArrival r) idle (cond (p .running) (arrivalTold p f x y) idle)
 
--- the events of a list of calls
-abbrev pub events : Box → Paper → List Call → List Event
-events b p cs = tells reply next told b p cs
+-- the events that calls tell, after those of h and with this paper
+abbrev pub eventsIn : Session → List Call → Paper → List Call → List Event
+eventsIn S h p cs = tells (replyIn S) more told h p cs
+
+-- the image size that opening set: of the first format and the greatest size
+abbrev pub openingSize : List ℕ → ℕ
+openingSize s = imageSize (openingFormat s) (lineAlignment s)
+
+-- the two queues and the counts on paper, after calls from an opening with sheet s
+abbrev pub paperIn : List ℕ → Session → List Call → Paper
+paperIn s S cs = noted (blank (openingSize s)) (eventsIn S [] (blank (openingSize s)) cs)
+
+-- the numbers of the arrivals handed over in the last run
+abbrev pub handedIn : List ℕ → Session → List Call → List ℕ
+handedIn s S cs = handedOver (blank (openingSize s)) [] (eventsIn S [] (blank (openingSize s)) cs)

@@ -1,49 +1,59 @@
-// What holds of the device, whatever it is asked. Nothing runs here: each function is named after a claim, and its contract is the
-// claim, over the definitions that the contracts of `device` cite.
+// What holds of our device, whatever it is asked, told from calls and answers alone. Nothing runs here: each function is named after a
+// claim, and its contract is the claim, of the machine that the definitions make which the contracts of `requests` and `device` cite.
 ghost use mathlib.Core.Path.{_≡_};
 ghost use mathlib.Core.Bool.{true};
-ghost use Rattle.claims.specs.Claims.{Demand3};
-ghost use Rattle.claims.specs.Demands.{Demand1, Demand2, HistoryEquation, OnePlace, Verdicts};
+ghost use mathlib.Core.List.{List};
+ghost use Prim.Native.Nat.{ℕ};
+ghost use Rattle.claims.specs.Meets.{Demand1, Demand2, Demand3, Counts, Answers, Meets};
+ghost use Rattle.claims.specs.NoRoom.{NoRoom};
+ghost use Rattle.claims.specs.Device.{machineOf, ourDevice};
 
-// Every word, argument, sheet, frame and state has an answer, with the number of the refusal table; a refusal changes nothing.
+// Every call has an answer, by the refusal table; a refusal leaves no trace.
 pub fn demand_1() -> bool
-    ensures { λ r. ⌜ (r ≡ true) × Demand1 ⌝ }
+    ensures { λ r. ⌜ (r ≡ true) × ((s m : List ℕ) → Demand1 s m (machineOf ourDevice s m)) ⌝ }
 {
     true
 }
 
-// Trying a format changes nothing and predicts, byte for byte, what setting it answers; getting it then answers the same.
+// Trying a format leaves no trace and predicts, byte for byte, what setting it answers: the nearest sizes, the code asked or the first.
 pub fn demand_2() -> bool
-    ensures { λ r. ⌜ (r ≡ true) × Demand2 ⌝ }
+    ensures { λ r. ⌜ (r ≡ true) × ((s m : List ℕ) → Demand2 s (machineOf ourDevice s m)) ⌝ }
 {
     true
 }
 
-// Every list of calls from one opening: a buffer handed in gets its arrival and comes back with exactly that, and the verdict is
-// COMPLETE exactly when all arrivals of the last run were whole, stored and handed over.
+// A buffer handed in gets its arrival and comes back with exactly that; the film is COMPLETE exactly when all arrivals of the last run were
+// whole, stored and handed over; and nothing else is ever written.
 pub fn demand_3() -> bool
-    ensures { λ r. ⌜ (r ≡ true) × Demand3 ⌝ }
+    ensures { λ r. ⌜ (r ≡ true) × ((s m : List ℕ) → Demand3 s m (machineOf ourDevice s m)) ⌝ }
 {
     true
 }
 
-// After every list of calls the arrivals accepted in the run are those handed over, outgoing, damaged, dropped and discarded.
-pub fn history_equation() -> bool
-    ensures { λ r. ⌜ (r ≡ true) × HistoryEquation ⌝ }
+// The counts add up and are those told; each buffer is in one place; each verdict is given exactly when the paper says.
+pub fn counts() -> bool
+    ensures { λ r. ⌜ (r ≡ true) × ((s m : List ℕ) → Counts s (machineOf ourDevice s m)) ⌝ }
 {
     true
 }
 
-// After every list of calls each buffer is dequeued, incoming or outgoing, and only one of these.
-pub fn one_place() -> bool
-    ensures { λ r. ⌜ (r ≡ true) × OnePlace ⌝ }
+// Every call that is accepted, and every plane, is answered by the sheet, the calls before and their answers.
+pub fn answers() -> bool
+    ensures { λ r. ⌜ (r ≡ true) × ((s m : List ℕ) → Answers s m (machineOf ourDevice s m)) ⌝ }
 {
     true
 }
 
-// After every list of calls each verdict is given exactly when the paper says.
-pub fn verdicts() -> bool
-    ensures { λ r. ⌜ (r ≡ true) × Verdicts ⌝ }
+// All of them together.
+pub fn our_device_meets_them() -> bool
+    ensures { λ r. ⌜ (r ≡ true) × Meets (machineOf ourDevice) ⌝ }
+{
+    true
+}
+
+// They leave no room: no other machine meets them, whatever it is made of.
+pub fn no_room() -> bool
+    ensures { λ r. ⌜ (r ≡ true) × NoRoom ⌝ }
 {
     true
 }

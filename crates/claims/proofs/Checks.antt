@@ -1,0 +1,69 @@
+-- The tests that the device makes: those of the refusal table, of its state for the paper.
+use Prim.Native.Nat.{ℕ, _/_, _%_}
+use mathlib.Core.Bool.{true, cond, not, _&&_, _||_}
+use mathlib.Core.List.{List, [], _∷_}
+use lib.Dec.{eqb, leb}
+use lib.ListN.{length}
+use Rattle.wire.specs.Words.{wordAt}
+use Rattle.ioctl.specs.Table.{requestOf}
+use Rattle.ioctl.specs.declared.refusals.Refusal.the-variants.{ArgumentLength, MemoryLength, Closed, UnknownWord, NoSuchIndex, NoSuchControl, NotDequeued, NoBuffers, ControlDisabled, ControlReadOnly, ControlIsButton, BuffersExist, Streaming, ControlGrabbed, OutOfRange, NothingOutgoing, RunFull}
+use Rattle.ioctl.specs.declared.table.Call.{Call}
+use Rattle.ioctl.specs.declared.table.Call.the-variants.{Unknown, Querycap, EnumFmt, GFmt, SFmt, TryFmt, Reqbufs, Querybuf, Qbuf, Dqbuf, Streamon, Streamoff, GCtrl, SCtrl, Queryctrl, Cropcap, GCrop, SCrop}
+use Rattle.fields.specs.Fields.{formatCount}
+use Rattle.control.specs.Find.{present, placeOf, queriedPlace}
+use Rattle.buffers.specs.Moves.{isIncoming, isOutgoing}
+use Rattle.stream.specs.Stream.{streaming}
+use Rattle.state.specs.State.{State}
+use Rattle.buffers.specs.declared.Time.{Time}
+use Rattle.arrival.specs.declared.Arrival.{Arrival}
+use Rattle.arrival.specs.declared.Arrival.the-variants.{Ignored, Damaged}
+use Rattle.arrival.specs.Arrivals.{runLimit}
+use Rattle.arrival.specs.Picture.{wholePicture}
+use Rattle.claims.specs.Table.{Check, check, wrongType, wrongMemory, named, outOfRange, placedOn}
+
+-- the tests of each call, its argument having the length that its word says
+abbrev pub checks : Call → List ℕ → State → List ℕ → List Check
+checks Unknown s d a = check true UnknownWord ∷ []
+checks Querycap s d a = []
+checks EnumFmt s d a = wrongType a 4 ∷ check (leb (formatCount s) (wordAt a 0)) NoSuchIndex ∷ []
+checks GFmt s d a = wrongType a 0 ∷ []
+checks SFmt s d a = wrongType a 0 ∷ check (not (eqb (d .stream .queues .granted) 0)) BuffersExist ∷ []
+checks TryFmt s d a = wrongType a 0 ∷ []
+checks Reqbufs s d a = wrongType a 4 ∷ wrongMemory a 8 ∷ check (streaming (d .stream) && not (eqb (wordAt a 0) 0)) Streaming ∷ []
+checks Querybuf s d a = wrongType a 4 ∷ check (leb (d .stream .queues .granted) (wordAt a 0)) NoSuchIndex ∷ []
+checks Qbuf s d a =
+    wrongType a 4 ∷ wrongMemory a 48 ∷ check (leb (d .stream .queues .granted) (wordAt a 0)) NoSuchIndex
+    ∷ check (isIncoming (d .stream .queues) (wordAt a 0) || isOutgoing (d .stream .queues) (wordAt a 0)) NotDequeued ∷ []
+checks Dqbuf s d a =
+    wrongType a 4 ∷ wrongMemory a 48 ∷ check (eqb (d .stream .queues .granted) 0) NoBuffers ∷ check (eqb (length (d .stream .queues .outgoing)) 0) NothingOutgoing ∷ []
+checks Streamon s d a = wrongType a 0 ∷ check (eqb (d .stream .queues .granted) 0) NoBuffers ∷ []
+checks Streamoff s d a = wrongType a 0 ∷ []
+checks GCtrl s d a =
+    check (leb (present s) (placeOf s (wordAt a 0))) NoSuchControl ∷ check (eqb (named s a .flags % 2) 1) ControlDisabled
+    ∷ check (eqb (named s a .kind) 4) ControlIsButton ∷ []
+checks SCtrl s d a =
+    check (leb (present s) (placeOf s (wordAt a 0))) NoSuchControl ∷ check (eqb (named s a .flags % 2) 1) ControlDisabled
+    ∷ check (eqb (named s a .flags / 4 % 2) 1) ControlReadOnly ∷ check (eqb (named s a .flags / 2 % 2) 1) ControlGrabbed
+    ∷ check (outOfRange (named s a) (wordAt a 4)) OutOfRange ∷ []
+checks Queryctrl s d a = check (leb (present s) (queriedPlace s (wordAt a 0))) NoSuchControl ∷ []
+checks Cropcap s d a = wrongType a 0 ∷ []
+checks GCrop s d a = wrongType a 0 ∷ []
+checks SCrop s d a = wrongType a 0 ∷ []
+
+-- a request: a closed device, an unknown word, the argument's length, then the call's own tests
+abbrev pub requestChecks : List ℕ → State → ℕ → List ℕ → List Check
+requestChecks s d w a =
+    check (eqb (d .ready) 0) Closed ∷ check (eqb (requestOf w .size) 0) UnknownWord
+    ∷ check (not (eqb (length a) (requestOf w .size))) ArgumentLength ∷ checks (requestOf w .call) s d a
+
+-- the tests of an arrival
+abbrev pub arrivalChecks : State → ℕ → List Check
+arrivalChecks d lent =
+    check (eqb (d .ready) 0) Closed ∷ check (not (eqb lent (d .stream .length))) MemoryLength
+    ∷ check (streaming (d .stream) && leb runLimit (d .stream .run .accepted)) RunFull ∷ []
+
+-- what an arrival of n bytes is answered that passes them
+abbrev pub arrivedBy : State → ℕ → Time → Arrival
+arrivedBy d n t =
+    cond (not (streaming (d .stream))) Ignored
+    (cond (wholePicture n (d .size) t && leb n (d .size)) (placedOn (d .stream .queues .incoming) (d .stream .run .accepted)) Damaged)

@@ -1,0 +1,208 @@
+-- Demand 2 of our device.
+use mathlib.Core.Path.{_≡_, refl, sym, ap, _∙_}
+use mathlib.Core.Logic.{_≢_}
+use mathlib.Core.Bool.{Bool, true, false, cond, not, _||_}
+use Prim.Native.Nat.{ℕ, _*_, _≤_, _<_}
+use native.Mathlib.Omega.{arith}
+use native.Mathlib.Nat.{le-of-mul-le-mul-right}
+use borrow.Author.Tests.{eqb-true}
+use lib.Dec.{eqb}
+use mathlib.Core.List.{List}
+use lib.ListN.{length}
+use lib.Seq.{sets}
+use Rattle.wire.specs.Words.{wordAt}
+use Rattle.wire.proofs.Stores.{sets-all}
+use Rattle.ioctl.specs.Table.{argumentSize, requestOf}
+use Rattle.ioctl.specs.declared.table.Call.{Call as Asked}
+use Rattle.ioctl.specs.declared.table.Call.the-variants.{SFmt, TryFmt}
+use Rattle.ioctl.specs.declared.refusals.Refusal.the-variants.{ArgumentLength, Closed, UnknownWord, WrongType, BuffersExist}
+use Rattle.fields.specs.Copy.{keptOf}
+use Rattle.fields.specs.Fields.{formatCode}
+use Rattle.fields.proofs.Copies.{kept-format-count, kept-code}
+use Rattle.geometry.specs.Geometry.{widthsOf, heightsOf}
+use Rattle.geometry.specs.declared.Range.{Range}
+use Rattle.geometry.proofs.Copies.{kept-widths, kept-heights, kept-alignment}
+use Rattle.sheet.specs.Rules.{knownCode, goodSheet}
+use Rattle.sheet.specs.Folds.{anyBelow}
+use Rattle.sheet.proofs.Truth.{any-at}
+use Rattle.sheet.proofs.Facts.{Sizes}
+use Rattle.sheet.proofs.Good.{geometry, format}
+use Rattle.grid.specs.Grid.{nearestSize, sizeAt}
+use Rattle.grid.proofs.Sizes.{size-to, size-on-grid, size-nearest, size-tie}
+use Rattle.format.specs.declared.Format.{Format}
+use Rattle.negotiation.specs.Negotiation.{offered, offersAmong, chosenCode, negotiated, askedFormat}
+use Rattle.negotiation.specs.Answer.{pictureWords}
+use Rattle.negotiation.proofs.Good.{offered-all, width-within, height-within, chosen-offered, code-kept}
+use Rattle.negotiation.proofs.Reply.{reply-length, reply-word}
+use Rattle.state.specs.State.{State, withFormat}
+use Rattle.state.specs.Answers.{Answer, done, refused}
+use Rattle.settings.specs.Settings.{toldFormat, sFmtOf, tryFmtOf}
+use Rattle.requests.specs.Request.{callAnswer, requestAnswer}
+use Rattle.claims.specs.Calls.{Call}
+use Rattle.claims.specs.Calls.Call.{request}
+use Rattle.claims.specs.Machine.{Given, more}
+use Rattle.claims.specs.Meets.{Nearest, Offered, Chosen, Demand2}
+use Rattle.claims.proofs.Boxes.{Box, asks, next, boxAfter, ours}
+use Rattle.claims.proofs.Formats.{Reached, reached, passed, try-stays, try-answers, got-set}
+use Rattle.claims.proofs.Lists.{Since, since, one-more, no-trace}
+use Rattle.claims.proofs.Told.{short, never}
+
+-- ---- unless S_FMT gives 16
+
+abbrev given : Answer → Given
+given r = record { number = r .number; argument = r .argument }
+
+same-given : (s : List ℕ) (d : State) (t u : ℕ) (a : List ℕ) → requestOf t .call ≡ TryFmt → requestOf u .call ≡ SFmt
+    → requestAnswer s d u a .number ≢ 16 → given (requestAnswer s d t a) ≡ given (requestAnswer s d u a)
+unfolding requestAnswer requestOf tryFmtOf sFmtOf
+same-given s d t u a et eu h =
+    ap (λ (call : Asked). given (at call)) et
+    ∙ go (eqb (d .ready) 0) (eqb (length a) 204) (eqb (wordAt a 0) 1) (eqb (d .stream .queues .granted) 0) (λ e. h (ap (λ (call : Asked). at call .number) eu ∙ e))
+    ∙ sym (ap (λ (call : Asked). given (at call)) eu)
+  where
+    at : Asked → Answer
+    at call = cond (eqb (d .ready) 0) (refused Closed d a) (cond (eqb (argumentSize call) 0) (refused UnknownWord d a)
+        (cond (not (eqb (length a) (argumentSize call))) (refused ArgumentLength d a) (callAnswer call s d a)))
+
+    f : List ℕ
+    f = sets a 0 (toldFormat s (negotiated s (askedFormat a)))
+
+    tried : Bool → Bool → Bool → Answer
+    tried x y z = cond x (refused Closed d a) (cond (not y) (refused ArgumentLength d a) (cond (not z) (refused WrongType d a) (done d f)))
+
+    set : Bool → Bool → Bool → Bool → Answer
+    set x y z g = cond x (refused Closed d a) (cond (not y) (refused ArgumentLength d a) (cond (not z) (refused WrongType d a)
+        (cond (not g) (refused BuffersExist d a) (done (withFormat s d (negotiated s (askedFormat a))) f))))
+
+    go : (x y z g : Bool) → set x y z g .number ≢ 16 → given (tried x y z) ≡ given (set x y z g)
+    go true y z g h = refl
+    go false false z g h = refl
+    go false true false g h = refl
+    go false true true true h = refl
+    go false true true false h = absurd (h refl)
+
+-- ---- nearest
+
+nearest-of : (r : Range) → Sizes r → (asked : ℕ) → Nearest r asked (nearestSize r asked)
+nearest-of r z asked =
+    let some : 0 < r .step = omega (arith, z .stride) in
+    let at = size-on-grid r (z .steps) some (z .whole) asked in
+    record {
+      place = at .0;
+      is = at .2;
+      most = size-to r asked (z .order);
+      near = λ k h. size-nearest r (z .steps) some (z .whole) asked k (within k h some);
+      tie = λ k h e. size-tie r (z .steps) some (z .whole) asked k (within k h some) e;
+    }
+  where
+    within : (k : ℕ) → sizeAt r k ≤ r .greatest → 0 < r .step → k ≤ z .steps
+    within k h some = let l : k * r .step ≤ z .steps * r .step = omega (arith, z .whole) in le-of-mul-le-mul-right l some
+
+-- ---- the words of an answered format
+
+-- a code that sheets may have is a word
+known-fits : (c : ℕ) → knownCode c ≡ true → c < 4294967296
+unfolding knownCode
+known-fits c = or _ 0x3231564E (omega arith) (or _ 0x32315659 (omega arith) (or _ 0x32315559 (omega arith) (or _ 0x33524742 (omega arith) (or _ 0x33424752 (omega arith)
+    (or _ 0x50424752 (omega arith) (or _ 0x59565955 (omega arith) (or _ 0x56595559 (omega arith) (is 0x59455247 (omega arith)))))))))
+  where
+    is : (k : ℕ) → k < 4294967296 → eqb c k ≡ true → c < 4294967296
+    is k h e = omega (arith, eqb-true c k e)
+
+    or : (x : Bool) (k : ℕ) → k < 4294967296 → (x ≡ true → c < 4294967296) → (x || eqb c k) ≡ true → c < 4294967296
+    or true k h f e = f refl
+    or false k h f e = is k h e
+
+module _ (s : List ℕ) (good : goodSheet s ≡ true) (f : Format) where
+  code-fits : chosenCode s (f .code) < 4294967296
+  code-fits = let (k, b, e) = chosen-offered s good (f .code) in omega (arith, e, known-fits (formatCode s k) (format s good k b .known))
+
+  -- width, height and code of what was negotiated
+  pub width-word : wordAt (toldFormat s (negotiated s f)) 4 ≡ nearestSize (widthsOf s) (f .width)
+  unfolding pictureWords negotiated
+  width-word = reply-word 1 (negotiated s f) _ _ 1 (omega arith) (omega (arith, width-within s good (f .width) .1))
+
+  pub height-word : wordAt (toldFormat s (negotiated s f)) 8 ≡ nearestSize (heightsOf s) (f .height)
+  unfolding pictureWords negotiated
+  height-word = reply-word 1 (negotiated s f) _ _ 2 (omega arith) (omega (arith, height-within s good (f .height) .1))
+
+  pub code-word : wordAt (toldFormat s (negotiated s f)) 12 ≡ chosenCode s (f .code)
+  unfolding pictureWords negotiated
+  code-word = reply-word 1 (negotiated s f) _ _ 3 (omega arith) code-fits
+
+-- the code asked, or the first
+chosen-of : (s : List ℕ) → goodSheet s ≡ true → (c : ℕ) → Chosen s c (chosenCode s c)
+unfolding chosenCode offersAmong
+chosen-of s good c = record {
+  offered = λ (k, b, e). ap (chosenCode s) (sym e) ∙ code-kept s good k b ∙ e;
+  otherwise = go (anyBelow (offered s) (λ k. eqb (formatCode s k) c)) refl;
+}
+  where
+    go : (x : Bool) → anyBelow (offered s) (λ k. eqb (formatCode s k) c) ≡ x → (Offered s c → ⊥) → cond x c (formatCode s 0) ≡ formatCode s 0
+    go true e none =
+        let (k, b, g) = any-at (offered s) (λ k. eqb (formatCode s k) c) e in
+        absurd (none (k, omega (arith, b, offered-all s good), eqb-true (formatCode s k) c g))
+    go false e none = refl
+
+-- the copy of a sheet makes the same of a question, and tells it alike
+pub kept-negotiated : (s : List ℕ) → length s ≤ 2688 → (f : Format) → negotiated (keptOf s) f ≡ negotiated s f
+unfolding negotiated chosenCode offersAmong offered
+kept-negotiated s fits f = simp (kept-widths s fits, kept-heights s fits, kept-format-count s fits, kept-code s fits)
+
+pub kept-told : (s : List ℕ) → length s ≤ 2688 → (f : Format) → toldFormat (keptOf s) f ≡ toldFormat s f
+kept-told s fits f = rw (kept-alignment s fits)
+
+-- an accepted TRY_FMT answers what was negotiated, all over its argument
+tried-answers : (s : List ℕ) (d : State) (t : ℕ) (a : List ℕ) → requestOf t .call ≡ TryFmt → requestAnswer s d t a .number ≡ 0
+    → (eqb (d .ready) 0 ≡ false) × (requestAnswer s d t a .argument ≡ toldFormat s (negotiated s (askedFormat a)))
+unfolding tryFmtOf
+tried-answers s d t a e h =
+    let q : Reached s d t a = reached s d t a h in
+    let is : requestAnswer s d t a ≡ tryFmtOf s d a = q .is ∙ ap (λ (call : Asked). callAnswer call s d a) e in
+    let f : List ℕ = toldFormat s (negotiated s (askedFormat a)) in
+    let ok : not (eqb (wordAt a 0) 1) ≡ false = passed (not (eqb (wordAt a 0) 1)) WrongType d a (done d (sets a 0 f)) (ap (λ (r : Answer). r .number) (sym is) ∙ h) in
+    (q .ready, ap (λ (r : Answer). r .argument) (is ∙ try-answers s d a ok) ∙ sets-all f a (q .long ∙ ap argumentSize e ∙ sym (reply-length 1 (negotiated s (askedFormat a)) _ _)))
+
+module _ (s m : List ℕ) (cs : List Call) (t : ℕ) (a : List ℕ) (e : requestOf t .call ≡ TryFmt) (h : ours s m .request cs t a .number ≡ 0) where
+  -- the sheet was good, and the answer is what it makes of the question
+  tried : (goodSheet s ≡ true) × (ours s m .request cs t a .argument ≡ toldFormat s (negotiated s (askedFormat a)))
+  tried = go (since s m cs) (tried-answers (boxAfter s m cs .sheet) (boxAfter s m cs .state) t a e h)
+    where
+      b : Box
+      b = boxAfter s m cs
+
+      go : Since s m cs → (eqb (b .state .ready) 0 ≡ false) × (asks b t a .argument ≡ toldFormat (b .sheet) (negotiated (b .sheet) (askedFormat a)))
+          → (goodSheet s ≡ true) × (asks b t a .argument ≡ toldFormat s (negotiated s (askedFormat a)))
+      go (Since.good g n k) (r, q) = (
+        g,
+        q ∙ ap (λ (z : List ℕ). toldFormat z (negotiated z (askedFormat a))) (k .sheet)
+            ∙ kept-told s (short s g) (negotiated (keptOf s) (askedFormat a)) ∙ ap (toldFormat s) (kept-negotiated s (short s g) (askedFormat a)),
+      )
+      go (Since.bad n d p) (r, q) = never (b .state) d r
+
+  widths-told : Nearest (widthsOf s) (wordAt a 4) (wordAt (ours s m .request cs t a .argument) 4)
+  unfolding askedFormat
+  widths-told = rw (tried .1, width-word s (tried .0) (askedFormat a)) (nearest-of (widthsOf s) (geometry s (tried .0) .widths) (wordAt a 4))
+
+  heights-told : Nearest (heightsOf s) (wordAt a 8) (wordAt (ours s m .request cs t a .argument) 8)
+  unfolding askedFormat
+  heights-told = rw (tried .1, height-word s (tried .0) (askedFormat a)) (nearest-of (heightsOf s) (geometry s (tried .0) .heights) (wordAt a 8))
+
+  codes-told : Chosen s (wordAt a 12) (wordAt (ours s m .request cs t a .argument) 12)
+  unfolding askedFormat
+  codes-told = rw (tried .1, code-word s (tried .0) (askedFormat a)) (chosen-of s (tried .0) (wordAt a 12))
+
+pub told-2 : (s m : List ℕ) → Demand2 s (ours s m)
+told-2 s m = record {
+  quiet = λ cs t a e.
+      let b : Box = boxAfter s m cs in
+      no-trace s m cs (request t a) (ap (λ (d : State). record { sheet = b .sheet; state = d; memory = b .memory }) (try-stays (b .sheet) (b .state) t a e));
+  same = λ cs t u a et eu h. same-given (boxAfter s m cs .sheet) (boxAfter s m cs .state) t u a et eu h;
+  got = λ cs u g a b eu eg h k.
+      let e : boxAfter s m (more cs (request u a)) ≡ next (boxAfter s m cs) (request u a) = one-more s m cs (request u a) in
+      ap (λ (x : Box). asks x g b .argument) e
+      ∙ got-set (boxAfter s m cs .sheet) (boxAfter s m cs .state) u g a b eu eg h (ap (λ (x : Box). asks x g b .number) (sym e) ∙ k);
+  widths = widths-told s m;
+  heights = heights-told s m;
+  codes = codes-told s m;
+}

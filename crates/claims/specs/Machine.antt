@@ -1,0 +1,62 @@
+-- Any machine, seen from outside: what it gives back after the calls before, and what can then be read of it. No state is named here,
+-- so whatever a claim says is said of calls and answers alone.
+use Prim.Native.Nat.{ℕ}
+use mathlib.Core.Path.{_≡_}
+use mathlib.Core.List.{List, [], _∷_, _++_}
+use Rattle.buffers.specs.Stream.{Run}
+use Rattle.planes.specs.declared.Place.{Place}
+use Rattle.arrival.specs.declared.Arrival.{Arrival}
+use Rattle.status.specs.declared.Verdict.{Verdict}
+use Rattle.claims.specs.Calls.{Call, Reply}
+use Rattle.claims.specs.Calls.Call.{request, arrival}
+use Rattle.claims.specs.Calls.Reply.{answered, taken}
+
+-- What a request gives back: its number, and the argument as it is left.
+pub record Given : Type 0 where
+  pub number : ℕ
+  pub argument : List ℕ
+
+-- One opening and what follows it. Each list is that of the calls made since, oldest first.
+-- There is one stream, of pictures, type 1. A second one would come in by its type: a machine takes a memory for each, an arrival says which it
+-- is for, and memory, verdict and counts are those of one type.
+pub record Session : Type 0 where
+  -- the number that the opening gave back
+  pub opening : ℕ
+  -- what a request gives back: word and argument
+  pub request : List Call → ℕ → List ℕ → Given
+  -- what an arrival is answered: bytes, seconds, microseconds, and what is lent if not the picture memory
+  pub arrival : List Call → List ℕ → ℕ → ℕ → List ℕ → Arrival
+  -- what it leaves of the memory that it is lent, whatever that is
+  pub leaves : List Call → List ℕ → ℕ → ℕ → List ℕ → List ℕ
+  -- the picture memory, the verdict, and the counts of the last run
+  pub memory : List Call → List ℕ
+  pub verdict : List Call → Verdict
+  pub counts : List Call → Run
+  -- where a plane lies in a frame: the frame's length, and which plane
+  pub plane : List Call → ℕ → ℕ → Place
+
+-- A machine: a session for every sheet, and every memory at opening.
+abbrev pub Machine : Type 0
+Machine = List ℕ → List ℕ → Session
+
+-- one call more
+abbrev pub more : List Call → Call → List Call
+more h c = h ++ (c ∷ [])
+
+-- what a call gives back
+abbrev pub replyIn : Session → List Call → Call → Reply
+replyIn S h (request w a) = answered (S .request h w a .number) (S .request h w a .argument)
+replyIn S h (arrival f x y other) = taken (S .arrival h f x y other)
+
+-- after these calls and after those everything that can be seen is the same
+pub record Same (S : Session) (x y : List Call) : Type 0 where
+  pub reply : (c : Call) → replyIn S x c ≡ replyIn S y c
+  pub leaves : (f : List ℕ) (u v : ℕ) (other : List ℕ) → S .leaves x f u v other ≡ S .leaves y f u v other
+  pub memory : S .memory x ≡ S .memory y
+  pub verdict : S .verdict x ≡ S .verdict y
+  pub counts : S .counts x ≡ S .counts y
+  pub plane : (n k : ℕ) → S .plane x n k ≡ S .plane y n k
+
+-- a call leaves no trace: whatever follows is as if it had not been made
+abbrev pub NoTrace : Session → List Call → Call → Type 0
+NoTrace S cs c = (ds : List Call) → Same S (cs ++ c ∷ ds) (cs ++ ds)

@@ -1,0 +1,126 @@
+-- The refusal table told from the calls and their answers: for each call its tests and the reason that each gives, in the order in
+-- which they are made. The first that holds answers; where none holds, the call is done.
+use Prim.Native.Nat.{ℕ, _/_, _%_}
+use mathlib.Core.Bool.{Bool, true, cond, not, _&&_, _||_}
+use mathlib.Core.List.{List, [], _∷_}
+use lib.Dec.{eqb, leb, ltb}
+use lib.ListN.{length}
+use lib.Signed.{ltZ}
+use Rattle.wire.specs.Words.{wordAt}
+use Rattle.wire.specs.Signed.{signed}
+use Rattle.ioctl.specs.Refusal.{errnoOf}
+use Rattle.ioctl.specs.Table.{requestOf}
+use Rattle.ioctl.specs.declared.refusals.Refusal.{Refusal}
+use Rattle.ioctl.specs.declared.refusals.Refusal.the-variants.{ArgumentLength, MemoryLength, Closed, UnknownWord, WrongType, WrongMemory, NoSuchIndex, NoSuchControl, NotDequeued, NoBuffers, ControlDisabled, ControlReadOnly, ControlIsButton, BuffersExist, Streaming, ControlGrabbed, OutOfRange, NothingOutgoing, RunFull, BadSheet, MemoryTooLong}
+use Rattle.ioctl.specs.declared.table.Call.{Call as Asked}
+use Rattle.ioctl.specs.declared.table.Call.the-variants.{Unknown, Querycap, EnumFmt, GFmt, SFmt, TryFmt, Reqbufs, Querybuf, Qbuf, Dqbuf, Streamon, Streamoff, GCtrl, SCtrl, Queryctrl, Cropcap, GCrop, SCrop}
+use Rattle.sheet.specs.Rules.{goodSheet}
+use Rattle.fields.specs.Fields.{formatCount, controlFields}
+use Rattle.fields.specs.declared.Control.{Control}
+use Rattle.control.specs.Find.{present, placeOf, queriedPlace}
+use Rattle.buffers.specs.Lists.{any}
+use Rattle.arrival.specs.Arrivals.{runLimit}
+use Rattle.arrival.specs.Picture.{wholePicture}
+use Rattle.arrival.specs.declared.Arrival.{Arrival}
+use Rattle.arrival.specs.declared.Arrival.the-variants.{Refused, Ignored, Damaged, Dropped, Stored}
+use Rattle.buffers.specs.declared.Time.{Time}
+use Rattle.device.specs.Opening.{longestMemory}
+use Rattle.history.specs.Paper.{Paper, indexOf}
+
+-- A test, and the reason that is given where it holds.
+pub record Check : Type 0 where
+  pub holds : Bool
+  pub why : Refusal
+
+abbrev pub check : Bool → Refusal → Check
+check b r = record { holds = b; why = r }
+
+-- the number of the first that holds, 0 where none does
+abbrev pub firstNumber : List Check → ℕ
+firstNumber [] = 0
+firstNumber (c ∷ cs) = cond (c .holds) (errnoOf (c .why)) (firstNumber cs)
+
+-- the type, or the memory, that the argument names at a place is not 1; with a second stream: is that of none, and the tests behind it are
+-- made on the paper of the one named
+abbrev pub wrongType : List ℕ → ℕ → Check
+wrongType a at = check (not (eqb (wordAt a at) 1)) WrongType
+
+abbrev pub wrongMemory : List ℕ → ℕ → Check
+wrongMemory a at = check (not (eqb (wordAt a at) 1)) WrongMemory
+
+-- the control that the argument names
+abbrev pub named : List ℕ → List ℕ → Control
+named s a = controlFields s (placeOf s (wordAt a 0))
+
+-- a value below the minimum or above the maximum of a control that is no button
+abbrev pub outOfRange : Control → ℕ → Bool
+outOfRange c v = not (eqb (c .kind) 4) && (ltZ (signed v) (c .limits .minimum) || ltZ (c .limits .maximum) (signed v))
+
+-- an opening: 22 for a bad sheet or a memory that is too long
+abbrev pub openingTests : List ℕ → ℕ → List Check
+openingTests s n = check (not (goodSheet s)) BadSheet ∷ check (ltb longestMemory n) MemoryTooLong ∷ []
+
+-- the paper has buffer k in one of its queues
+abbrev pub queuedOn : Paper → ℕ → Bool
+queuedOn p k = any (λ x. eqb x k) (p .incoming) || any (λ x. eqb (indexOf x) k) (p .outgoing)
+
+-- the tests of each call, its argument having the length that its word says
+abbrev pub tests : Asked → List ℕ → Paper → List ℕ → List Check
+tests Unknown s p a = check true UnknownWord ∷ []
+tests Querycap s p a = []
+tests EnumFmt s p a = wrongType a 4 ∷ check (leb (formatCount s) (wordAt a 0)) NoSuchIndex ∷ []
+tests GFmt s p a = wrongType a 0 ∷ []
+tests SFmt s p a = wrongType a 0 ∷ check (not (eqb (p .granted) 0)) BuffersExist ∷ []
+tests TryFmt s p a = wrongType a 0 ∷ []
+tests Reqbufs s p a = wrongType a 4 ∷ wrongMemory a 8 ∷ check (p .running && not (eqb (wordAt a 0) 0)) Streaming ∷ []
+tests Querybuf s p a = wrongType a 4 ∷ check (leb (p .granted) (wordAt a 0)) NoSuchIndex ∷ []
+tests Qbuf s p a =
+    wrongType a 4 ∷ wrongMemory a 48 ∷ check (leb (p .granted) (wordAt a 0)) NoSuchIndex ∷ check (queuedOn p (wordAt a 0)) NotDequeued ∷ []
+tests Dqbuf s p a =
+    wrongType a 4 ∷ wrongMemory a 48 ∷ check (eqb (p .granted) 0) NoBuffers ∷ check (eqb (length (p .outgoing)) 0) NothingOutgoing ∷ []
+tests Streamon s p a = wrongType a 0 ∷ check (eqb (p .granted) 0) NoBuffers ∷ []
+tests Streamoff s p a = wrongType a 0 ∷ []
+tests GCtrl s p a =
+    check (leb (present s) (placeOf s (wordAt a 0))) NoSuchControl ∷ check (eqb (named s a .flags % 2) 1) ControlDisabled
+    ∷ check (eqb (named s a .kind) 4) ControlIsButton ∷ []
+tests SCtrl s p a =
+    check (leb (present s) (placeOf s (wordAt a 0))) NoSuchControl ∷ check (eqb (named s a .flags % 2) 1) ControlDisabled
+    ∷ check (eqb (named s a .flags / 4 % 2) 1) ControlReadOnly ∷ check (eqb (named s a .flags / 2 % 2) 1) ControlGrabbed
+    ∷ check (outOfRange (named s a) (wordAt a 4)) OutOfRange ∷ []
+tests Queryctrl s p a = check (leb (present s) (queriedPlace s (wordAt a 0))) NoSuchControl ∷ []
+tests Cropcap s p a = wrongType a 0 ∷ []
+tests GCrop s p a = wrongType a 0 ∷ []
+tests SCrop s p a = wrongType a 0 ∷ []
+
+-- a request: the opening was refused, an unknown word, the argument's length, then the call's own tests
+abbrev pub requestTests : ℕ → List ℕ → Paper → ℕ → List ℕ → List Check
+requestTests n s p w a =
+    check (not (eqb n 0)) Closed ∷ check (eqb (requestOf w .size) 0) UnknownWord
+    ∷ check (not (eqb (length a) (requestOf w .size))) ArgumentLength ∷ tests (requestOf w .call) s p a
+
+-- an arrival: the opening was refused, another memory is lent, the run is full
+abbrev pub arrivalTests : ℕ → ℕ → Paper → ℕ → List Check
+arrivalTests n long p lent =
+    check (not (eqb n 0)) Closed ∷ check (not (eqb lent long)) MemoryLength ∷ check (p .running && leb runLimit (p .run .accepted)) RunFull ∷ []
+
+-- the first test that holds refuses an arrival; where none does, it is answered this
+abbrev pub refusedBy : List Check → Arrival → Arrival
+refusedBy [] r = r
+refusedBy (c ∷ cs) r = cond (c .holds) (Refused (c .why)) (refusedBy cs r)
+
+-- the first incoming buffer gets the arrival; where there is none it is dropped
+abbrev pub placedOn : List ℕ → ℕ → Arrival
+placedOn [] n = Dropped
+placedOn (k ∷ i) n = Stored k n
+
+-- an arrival of n bytes that is not refused: ignored outside a run; damaged unless it is whole; then it is placed, with its number
+abbrev pub arrivedOn : Paper → ℕ → Time → Arrival
+arrivedOn p n t = cond (not (p .running)) Ignored (cond (wholePicture n (p .size) t) (placedOn (p .incoming) (p .run .accepted)) Damaged)
+
+-- the number that an arrival gives back
+abbrev pub arrivalNumber : Arrival → ℕ
+arrivalNumber (Refused why) = errnoOf why
+arrivalNumber Ignored = 0
+arrivalNumber Damaged = 0
+arrivalNumber Dropped = 0
+arrivalNumber (Stored k n) = 0
