@@ -10,7 +10,8 @@
  *   - each pointer points to as many bytes as its length says (a length of 0 may come with any pointer that is
  *     not null), and stays valid during the call;
  *   - what one call is lent does not overlap, except that two things that are only read may;
- *   - one device is used by one thread at a time.
+ *   - one device is used by one thread at a time;
+ *   - nobody else writes the device, nor, while a frame in it is still wanted, the picture memory.
  */
 #ifndef TOLLGUTTER_H
 #define TOLLGUTTER_H
