@@ -11,6 +11,6 @@ fn main() {
     let manifest = PathBuf::from(env::var_os("CARGO_MANIFEST_DIR").expect("cargo names the manifest directory"));
     let place = manifest.join("../target/staticlib");
     println!("cargo:rustc-link-search=native={}", place.display());
-    println!("cargo:rustc-link-lib=static=capi");
-    println!("cargo:rerun-if-changed={}", place.join("libcapi.a").display());
+    println!("cargo:rustc-link-lib=static=tollgutter");
+    println!("cargo:rerun-if-changed={}", place.join("libtollgutter.a").display());
 }

@@ -382,7 +382,7 @@ use denote.Struct.Laws as LL''')
     wk = ''.join(f' (κs{" .1" * i} .0) (qs{" .1" * i} .0)' for i in range(nl))
     wa = ''.join(f' (a{" .1" * (i + 1)} .0)' for i in range(len(params)))
     wi = ''.join(f' (are{" .1" * (i + 1)} .0)' for i in range(len(params)))
-    cited = f'code.calls-{callee_crate}·{callee.replace("_", "-")}'
+    cited = f'code.calls-{callee_crate.replace("_", "-")}·{callee.replace("_", "-")}'
     o.append(f'''module _ {{M : Type 1}} (𝓤 : URA M) (H : Heap 𝓤) (A : Atoms 𝓤) (W : Given 𝓤 H A) (at-mem : Memory → SProp 𝓤) (run : Routine → Fun 𝓤) where
   walks : (C : Calls 𝓤 H) (Λ : Loops 𝓤 H) → FmC 𝓤 H (W .laws) C → Triple 𝓤 (C #callee) (Callee 𝓤 H A at-mem run) → Walks 𝓤 H A f.ended stayed (WpFn 𝓤 H C Λ code.function) (f.clauses 𝓤 H A at-mem run)
   walks C Λ fm known = walked 𝓤 H A f.ended stayed (f.clauses 𝓤 H A at-mem run) (WpFn 𝓤 H C Λ code.function) (λ κs. {vs}) (λ κs. {nest(tl)})

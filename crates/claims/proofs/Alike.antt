@@ -6,16 +6,16 @@ use borrow.Author.Tests.{eqb-true, eqb-false}
 use lib.Dec.{eqb}
 use mathlib.Core.List.{List, [], _∷_, _++_, append-nil, append-assoc}
 use lib.ListN.{length}
-use Rattle.ioctl.specs.Table.{requestOf}
-use Rattle.buffers.specs.Stream.{Run}
-use Rattle.planes.specs.declared.Place.{Place}
-use Rattle.arrival.specs.declared.Arrival.{Arrival}
-use Rattle.arrival.specs.Arrivals.{writtenBy}
-use Rattle.status.specs.declared.Verdict.{Verdict}
-use Rattle.status.specs.declared.Verdict.the-variants.{Running, Blank, Gaps, Complete}
-use Rattle.history.specs.Paper.{Paper, blank, step, handedOver, tells}
-use Rattle.history.proofs.Meanings.{Means}
-use Rattle.claims.specs.Calls.{Call, Reply, timeOf}
+use Rattle.ioctl_table.specs.Table.{requestOf}
+use Rattle.stream_words.specs.Stream.{Run}
+use Rattle.plane_rules.specs.declared.Place.{Place}
+use Rattle.stream_arrival.specs.declared.Arrival.{Arrival}
+use Rattle.stream_arrival.specs.Arrivals.{writtenBy}
+use Rattle.stream_verdict.specs.declared.Verdict.{Verdict}
+use Rattle.stream_verdict.specs.declared.Verdict.the-variants.{Running, Blank, Gaps, Complete}
+use Rattle.stream_history.specs.Paper.{Paper, blank, step, handedOver, tells}
+use Rattle.stream_history.proofs.Meanings.{Means}
+use Rattle.claims.specs.Calls.{Call, Reply, arrivalTime}
 use Rattle.claims.specs.Calls.Call.{request, arrival}
 use Rattle.claims.specs.Calls.Reply.{answered, taken}
 use Rattle.claims.specs.Machine.{Given, Session, more, replyIn}
@@ -93,7 +93,7 @@ module _ (s m : List ℕ) (S T : Session) (t : Told s m S) (u : Told s m T) wher
     same-arrival : (f : List ℕ) (x y : ℕ) (other : List ℕ) → S .arrival h f x y other ≡ T .arrival h f x y other
     same-arrival f x y other =
         t .one .arrivals h f x y other
-        ∙ ap₂ (λ (n : ℕ) (p : Paper). refusedBy (arrivalTests n (length m) p (length other)) (arrivedOn p (length f) (timeOf x y))) same-opening (e .paper)
+        ∙ ap₂ (λ (n : ℕ) (p : Paper). refusedBy (arrivalTests n (length m) p (length other)) (arrivedOn p (length f) (arrivalTime x y))) same-opening (e .paper)
         ∙ sym (u .one .arrivals h f x y other)
 
     same-leaves : (f : List ℕ) (x y : ℕ) (other : List ℕ) → S .leaves h f x y other ≡ T .leaves h f x y other

@@ -9,56 +9,68 @@ use lib.Signed.{ltZ}
 use mathlib.Core.List.{List, [], _∷_, _++_, append-nil, append-assoc}
 use lib.ListN.{length, getD, set, length-take, length-drop}
 use lib.Seq.{sets}
-use Rattle.wire.specs.Words.{wordAt}
-use Rattle.wire.specs.Signed.{signed}
-use Rattle.ioctl.specs.Refusal.{errnoOf}
-use Rattle.ioctl.specs.Table.{argumentSize, requestOf}
-use Rattle.ioctl.specs.declared.refusals.Refusal.{Refusal}
-use Rattle.ioctl.specs.declared.refusals.Refusal.the-variants.{Closed, WrongType, WrongMemory, NoSuchIndex, NotDequeued, NoSuchControl, BuffersExist, ControlDisabled, ControlReadOnly, ControlIsButton, ControlGrabbed, OutOfRange}
-use Rattle.ioctl.specs.declared.table.Call.{Call as Asked}
-use Rattle.ioctl.specs.declared.table.Call.the-variants.{Unknown, Querycap, EnumFmt, GFmt, SFmt, TryFmt, Reqbufs, Querybuf, Qbuf, Dqbuf, Streamon, Streamoff, GCtrl, SCtrl, Queryctrl, Cropcap, GCrop, SCrop}
-use Rattle.ioctl.proofs.Numbers.{errno-positive}
-use Rattle.fields.specs.Copy.{keptOf}
-use Rattle.fields.specs.Fields.{formatCount, controlCount, controlsAt, controlAt, controlRecord}
-use Rattle.fields.proofs.Copies.{kept-word, kept-format-count, kept-code, kept-description, kept-identity, kept-control, kept-record}
-use Rattle.geometry.specs.Geometry.{lineAlignment}
-use Rattle.geometry.specs.declared.Rect.{Rect}
-use Rattle.geometry.proofs.Copies.{kept-widths, kept-heights, kept-alignment, kept-bounds, kept-default, kept-aspect}
-use Rattle.sheet.specs.Rules.{goodSheet}
-use Rattle.sheet.proofs.Good.{identity-within, format-within, control-within}
-use Rattle.format.specs.declared.Format.{Format}
-use Rattle.negotiation.specs.Negotiation.{openingFormat, negotiated, askedFormat}
-use Rattle.negotiation.specs.Answer.{formatReply}
-use Rattle.negotiation.proofs.Reply.{reply-length}
-use Rattle.planes.specs.Planes.{noPlace, placeOf as planeOf}
-use Rattle.crop.specs.Crop.{clamped}
-use Rattle.control.specs.Find.{present, placeOf, queriedPlace}
-use Rattle.control.specs.Values.{defaultValues, openingValues, readingAt, reading, rangedAt, settingAt, settingOf}
-use Rattle.control.specs.declared.Reading.{Reading}
-use Rattle.control.specs.declared.Reading.the-variants as reads
-use Rattle.control.specs.declared.Setting.{Setting}
-use Rattle.control.specs.declared.Setting.the-variants as settings
-use Rattle.buffers.specs.Stream.{Stream, onQueues}
-use Rattle.buffers.specs.Moves.{isIncoming, isOutgoing, pushed}
-use Rattle.stream.specs.Calls.{Step, answers, refuses, enqueueOf}
-use Rattle.stream.specs.declared.Reply.the-variants as replies
-use Rattle.status.specs.declared.Status.{Status}
-use Rattle.status.specs.Buffer.{statusOf, returnedOf}
-use Rattle.replies.specs.Replies.{capabilityReply, descriptionReply, bufferReply, controlReply, valueReply, cropReply, cropCapabilityReply}
-use Rattle.replies.proofs.Words.{capability-length, description-length, buffer-length, value-length, crop-length, crop-capability-length}
-use Rattle.arrival.specs.declared.Arrival.the-variants as arrivals
-use Rattle.state.specs.State.{State, openingState, withStream}
-use Rattle.state.specs.Answers.{Answer, refused}
-use Rattle.settings.specs.Settings.{querycapOf, enumFmtOf, gFmtOf, toldFormat, sFmtOf, tryFmtOf, cropcapOf, gCropOf, sCropOf, askedCrop}
-use Rattle.controls.specs.Controls.{queryctrlOf, gCtrlOf, sCtrlOf, readAs, setAs}
-use Rattle.streaming.specs.Streaming.{StreamAnswer, streamAnswer, stepped, enqueueReply, reqbufsOf, querybufOf, qbufOf, dqbufOf, streamonOf, streamoffOf}
-use Rattle.requests.specs.Request.{byStream, streamCall, callAnswer}
-use Rattle.device.specs.Opening.{Opened, longestMemory, closedBy, openedOf}
-use Rattle.device.specs.Film.{Taken, pictureArrives, takenOf, devicePlace}
-use Rattle.history.specs.Paper.{Paper, Event, step}
-use Rattle.history.specs.Paper.Event.{put, handed}
-use Rattle.history.proofs.Tied.{Tied}
-use Rattle.claims.specs.Calls.{Call, timeOf}
+use Rattle.wire_read.specs.Words.{wordAt}
+use Rattle.wire_signed.specs.Signed.{signed}
+use Rattle.ioctl_table.specs.Refusal.{errnoOf}
+use Rattle.ioctl_table.specs.Table.{argumentSize, requestOf}
+use Rattle.ioctl_table.specs.declared.refusals.Refusal.{Refusal}
+use Rattle.ioctl_table.specs.declared.refusals.Refusal.the-variants.{Closed, WrongType, WrongMemory, NoSuchIndex, NotDequeued, NoSuchControl, BuffersExist, ControlDisabled, ControlReadOnly, ControlIsButton, ControlGrabbed, OutOfRange}
+use Rattle.ioctl_table.specs.declared.table.Call.{Call as Asked}
+use Rattle.ioctl_table.specs.declared.table.Call.the-variants.{Unknown, Querycap, EnumFmt, GFmt, SFmt, TryFmt, Reqbufs, Querybuf, Qbuf, Dqbuf, Streamon, Streamoff, GCtrl, SCtrl, Queryctrl, Cropcap, GCrop, SCrop}
+use Rattle.ioctl_table.proofs.Numbers.{errno-positive}
+use Rattle.sheet_copy.specs.Copy.{keptOf}
+use Rattle.sheet_contents.specs.Contents.{formatCount, controlCount, controlsAt, controlAt}
+use Rattle.sheet_records.specs.Records.{controlRecord}
+use Rattle.sheet_copy.proofs.Copies.{kept-word, kept-format-count, kept-code, kept-description, kept-identity, kept-control, kept-record}
+use Rattle.sheet_geometry.specs.Geometry.{lineAlignment}
+use Rattle.sheet_geometry.specs.declared.Rect.{Rect}
+use Rattle.sheet_geometry.proofs.Copies.{kept-widths, kept-heights, kept-alignment, kept-bounds, kept-default, kept-aspect}
+use Rattle.sheet_rules.specs.Rules.{goodSheet}
+use Rattle.sheet_rules.proofs.Good.{identity-within, format-within, control-within}
+use Rattle.format_rules.specs.declared.Format.{Format}
+use Rattle.negotiation_rules.specs.Negotiation.{openingFormat, negotiated, askedFormat}
+use Rattle.negotiation_rules.specs.Answer.{formatReply}
+use Rattle.negotiation_rules.proofs.Reply.{reply-length}
+use Rattle.plane_rules.specs.Planes.{noPlace, planeOf}
+use Rattle.crop_rules.specs.Crop.{clamped}
+use Rattle.control_place_rules.specs.Find.{present, placeOf, queriedPlace}
+use Rattle.control_value_rules.specs.Values.{defaultValues, openingValues, readingAt, reading, rangedAt, settingAt, settingOf}
+use Rattle.control_value_rules.specs.declared.Reading.{Reading}
+use Rattle.control_value_rules.specs.declared.Reading.the-variants as reads
+use Rattle.control_value_rules.specs.declared.Setting.{Setting}
+use Rattle.control_value_rules.specs.declared.Setting.the-variants as settings
+use Rattle.stream_words.specs.Stream.{Stream, onQueues}
+use Rattle.stream_words.specs.Moves.{isIncoming, isOutgoing, pushed}
+use Rattle.stream_run.specs.Switches.{Step, answers, refuses}
+use Rattle.stream_queue.specs.Queueing.{enqueueOf}
+use Rattle.stream_run.specs.declared.Reply.the-variants as replies
+use Rattle.stream_status.specs.declared.Status.{Status}
+use Rattle.stream_status.specs.Buffer.{statusOf, returnedOf}
+use Rattle.format_replies.specs.Replies.{capabilityReply, descriptionReply}
+use Rattle.buffer_replies.specs.Replies.{bufferReply}
+use Rattle.control_replies.specs.Replies.{controlReply, valueReply}
+use Rattle.crop_replies.specs.Replies.{cropReply, cropCapabilityReply}
+use Rattle.format_replies.proofs.Lengths.{capability-length, description-length}
+use Rattle.buffer_replies.proofs.Lengths.{buffer-length}
+use Rattle.control_replies.proofs.Lengths.{value-length}
+use Rattle.crop_replies.proofs.Lengths.{crop-length, crop-capability-length}
+use Rattle.stream_arrival.specs.declared.Arrival.the-variants as arrivals
+use Rattle.device_state.specs.State.{State, openingState, withStream}
+use Rattle.device_state.specs.Answers.{Answer, refused}
+use Rattle.format_calls.specs.Formats.{querycapOf, enumFmtOf, gFmtOf}
+use Rattle.negotiation_calls.specs.Negotiations.{toldFormat, sFmtOf, tryFmtOf}
+use Rattle.crop_calls.specs.Crops.{cropcapOf, gCropOf, sCropOf, askedCrop}
+use Rattle.control_calls.specs.Controls.{queryctrlOf, gCtrlOf, sCtrlOf, readAs, setAs}
+use Rattle.buffer_calls.specs.Buffers.{StreamAnswer, streamAnswer, stepped, reqbufsOf, querybufOf}
+use Rattle.queue_calls.specs.Queues.{enqueueReply, qbufOf, dqbufOf}
+use Rattle.run_calls.specs.Runs.{streamonOf, streamoffOf}
+use Rattle.request_topics.specs.Request.{byStream, streamCall, callAnswer}
+use Rattle.device_opening.specs.Opening.{Opened, longestMemory, closedBy, openedOf}
+use Rattle.device_film.specs.Film.{Taken, pictureArrives, takenOf, devicePlace}
+use Rattle.stream_history.specs.Paper.{Paper, Event, step}
+use Rattle.stream_history.specs.Paper.Event.{put, handed}
+use Rattle.stream_history.proofs.Tied.{Tied}
+use Rattle.claims.specs.Calls.{Call, arrivalTime}
 use Rattle.claims.specs.Calls.Call.{request, arrival}
 use Rattle.claims.specs.Calls.Reply.{answered}
 use Rattle.claims.specs.Machine.{more, replyIn}
@@ -308,13 +320,13 @@ module _ (s : List ℕ) (good : goodSheet s ≡ true) (d : State) (mem : List �
 -- ---- from an opening
 
 -- an arrival leaves the desk
-arrival-desk : (d : State) (lent n x y : ℕ) → deskOf (takenOf d lent n (timeOf x y) .state) ≡ deskOf d
+arrival-desk : (d : State) (lent n x y : ℕ) → deskOf (takenOf d lent n (arrivalTime x y) .state) ≡ deskOf d
 unfolding takenOf
 arrival-desk d lent n x y = go (eqb (d .ready) 0)
   where
     r : Bool → Taken
     r v = cond v (record { arrival = arrivals.Refused Closed; state = d })
-        (record { arrival = pictureArrives d lent n (timeOf x y) .arrival; state = withStream d (pictureArrives d lent n (timeOf x y) .stream) })
+        (record { arrival = pictureArrives d lent n (arrivalTime x y) .arrival; state = withStream d (pictureArrives d lent n (arrivalTime x y) .stream) })
 
     go : (v : Bool) → deskOf (r v .state) ≡ deskOf d
     go true = refl

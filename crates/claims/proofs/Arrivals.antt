@@ -9,24 +9,24 @@ use borrow.Author.Tests.{leb-false}
 use lib.Dec.{eqb, leb, ltb}
 use mathlib.Core.List.{List, [], _∷_}
 use lib.ListN.{length}
-use Rattle.ioctl.specs.declared.refusals.Refusal.the-variants.{MemoryLength, Closed, BadSheet, MemoryTooLong, RunFull}
-use Rattle.sheet.specs.Rules.{goodSheet}
-use Rattle.buffers.specs.declared.Time.{Time}
-use Rattle.buffers.specs.Stream.{Stream, withRun}
-use Rattle.buffers.specs.Moves.{nextOf}
-use Rattle.stream.specs.Stream.{streaming}
-use Rattle.arrival.specs.declared.Arrival.{Arrival}
-use Rattle.arrival.specs.declared.Arrival.the-variants as arrivals
-use Rattle.arrival.specs.Arrivals.{Arrived, runLimit, answers, countedRun, damagedRun, placedIn, placedOf, acceptedOf, arrivalOf, writtenBy}
-use Rattle.arrival.specs.Picture.{wholePicture}
-use Rattle.fields.specs.Copy.{keptOf}
-use Rattle.state.specs.State.{State, openingState, withStream}
-use Rattle.device.specs.Opening.{Opened, longestMemory, closedBy, openedOf}
-use Rattle.device.specs.Film.{Taken, pictureArrives, takenOf}
+use Rattle.ioctl_table.specs.declared.refusals.Refusal.the-variants.{MemoryLength, Closed, BadSheet, MemoryTooLong, RunFull}
+use Rattle.sheet_rules.specs.Rules.{goodSheet}
+use Rattle.stream_words.specs.declared.Time.{Time}
+use Rattle.stream_words.specs.Stream.{Stream, withRun}
+use Rattle.stream_words.specs.Moves.{nextOf}
+use Rattle.stream_run.specs.Stream.{streaming}
+use Rattle.stream_arrival.specs.declared.Arrival.{Arrival}
+use Rattle.stream_arrival.specs.declared.Arrival.the-variants as arrivals
+use Rattle.stream_arrival.specs.Arrivals.{Arrived, runLimit, arrivedAs, countedRun, damagedRun, placedIn, placedOf, acceptedOf, arrivalOf, writtenBy}
+use Rattle.picture_rules.specs.Picture.{wholePicture}
+use Rattle.sheet_copy.specs.Copy.{keptOf}
+use Rattle.device_state.specs.State.{State, openingState, withStream}
+use Rattle.device_opening.specs.Opening.{Opened, longestMemory, closedBy, openedOf}
+use Rattle.device_film.specs.Film.{Taken, pictureArrives, takenOf}
 use Rattle.claims.specs.Table.{check, firstNumber, openingTests, refusedBy, placedOn, arrivalNumber}
 use Rattle.claims.proofs.Checks.{arrivalChecks, arrivedBy}
 
--- the stream's own tests, and what it answers where none holds
+-- the stream's own tests, and what it arrivedAs where none holds
 module _ (s : Stream) (lent n : ℕ) (w : Bool) (size : ℕ) (t : Time) where
   stream-answers : (arrivalOf s lent n w size t .arrival
       ≡ refusedBy (check (not (eqb lent (s .length))) MemoryLength ∷ check (streaming s && leb runLimit (s .run .accepted)) RunFull ∷ [])
@@ -39,8 +39,8 @@ module _ (s : Stream) (lent n : ℕ) (w : Bool) (size : ℕ) (t : Time) where
       c = withRun s (countedRun (s .run))
 
       r : Bool → Bool → Bool → Bool → List ℕ → Arrived
-      r x y z u i = cond x (answers (arrivals.Refused MemoryLength) s) (cond (not y) (answers arrivals.Ignored s) (cond z (answers (arrivals.Refused RunFull) s)
-          (cond u (placedIn (nextOf i) (withRun s (countedRun (s .run))) (s .run .accepted) n t) (answers arrivals.Damaged (withRun (withRun s (countedRun (s .run))) (damagedRun (countedRun (s .run))))))))
+      r x y z u i = cond x (arrivedAs (arrivals.Refused MemoryLength) s) (cond (not y) (arrivedAs arrivals.Ignored s) (cond z (arrivedAs (arrivals.Refused RunFull) s)
+          (cond u (placedIn (nextOf i) (withRun s (countedRun (s .run))) (s .run .accepted) n t) (arrivedAs arrivals.Damaged (withRun (withRun s (countedRun (s .run))) (damagedRun (countedRun (s .run))))))))
 
       go : (x y z : Bool) → leb runLimit (s .run .accepted) ≡ z → (u : Bool) (i : List ℕ)
           → (r x y z u i .arrival ≡ refusedBy (check x MemoryLength ∷ check (y && z) RunFull ∷ []) (cond (not y) arrivals.Ignored (cond u (placedOn i (s .run .accepted)) arrivals.Damaged)))

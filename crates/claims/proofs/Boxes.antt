@@ -5,21 +5,21 @@ use mathlib.Core.Bool.{cond}
 use mathlib.Core.List.{List, [], _∷_, _++_}
 use lib.Dec.{eqb}
 use lib.ListN.{length, take, drop}
-use Rattle.wire.specs.Words.{wordAt}
-use Rattle.wire.specs.Signed.{signedAt}
-use Rattle.ioctl.specs.Table.{requestOf}
-use Rattle.ioctl.specs.declared.table.Call.the-variants.{Qbuf, Dqbuf}
-use Rattle.buffers.specs.Slot.{slotOffset}
-use Rattle.arrival.specs.declared.Arrival.the-variants.{Stored}
-use Rattle.state.specs.State.{State}
-use Rattle.state.specs.Answers.{Answer}
-use Rattle.requests.specs.Request.{requestAnswer}
-use Rattle.device.specs.Opening.{openedOf}
-use Rattle.device.specs.Film.{Taken, takenOf, takenMemory, deviceVerdict, devicePlace}
-use Rattle.history.specs.Calls.{leaves}
-use Rattle.history.specs.Paper.{Paper, Event, blank, noted, wholes, dequeues, Calm, handedOver, tells}
-use Rattle.history.specs.Paper.Event.{whole}
-use Rattle.claims.specs.Calls.{Call, Reply, timeOf}
+use Rattle.wire_read.specs.Words.{wordAt}
+use Rattle.wire_signed.specs.Signed.{signedAt}
+use Rattle.ioctl_table.specs.Table.{requestOf}
+use Rattle.ioctl_table.specs.declared.table.Call.the-variants.{Qbuf, Dqbuf}
+use Rattle.stream_slots.specs.Slot.{slotOffset}
+use Rattle.stream_arrival.specs.declared.Arrival.the-variants.{Stored}
+use Rattle.device_state.specs.State.{State}
+use Rattle.device_state.specs.Answers.{Answer}
+use Rattle.request_topics.specs.Request.{requestAnswer}
+use Rattle.device_opening.specs.Opening.{openedOf}
+use Rattle.device_film.specs.Film.{Taken, takenOf, takenMemory, deviceVerdict, devicePlace}
+use Rattle.stream_history.specs.Calls.{leaves}
+use Rattle.stream_history.specs.Paper.{Paper, Event, blank, noted, wholes, dequeues, Calm, handedOver, tells}
+use Rattle.stream_history.specs.Paper.Event.{whole}
+use Rattle.claims.specs.Calls.{Call, Reply, arrivalTime}
 use Rattle.claims.specs.Calls.Call.{request, arrival}
 use Rattle.claims.specs.Calls.Reply.{answered, taken}
 use Rattle.claims.specs.Machine.{Machine}
@@ -45,7 +45,7 @@ lent b other = cond (eqb (length other) (length (b .memory))) (b .memory) other
 
 -- what an arrival answers and leaves
 abbrev pub arrives : Box → List ℕ → ℕ → ℕ → List ℕ → Taken
-arrives b f x y other = takenOf (b .state) (length (lent b other)) (length f) (timeOf x y)
+arrives b f x y other = takenOf (b .state) (length (lent b other)) (length f) (arrivalTime x y)
 
 -- what a call gives back
 abbrev pub reply : Box → Call → Reply
@@ -59,7 +59,7 @@ next b (arrival f x y other) =
     record {
       sheet = b .sheet;
       state = arrives b f x y other .state;
-      memory = cond (eqb (length other) (length (b .memory))) (takenMemory (b .state) (b .memory) f (timeOf x y)) (b .memory);
+      memory = cond (eqb (length other) (length (b .memory))) (takenMemory (b .state) (b .memory) f (arrivalTime x y)) (b .memory);
     }
 
 -- what a list of calls leaves
@@ -88,7 +88,7 @@ ours s m = record {
   opening = openedOf s (length m) .number;
   request = λ cs w a. record { number = asks (boxAfter s m cs) w a .number; argument = asks (boxAfter s m cs) w a .argument };
   arrival = λ cs f x y other. arrives (boxAfter s m cs) f x y other .arrival;
-  leaves = λ cs f x y other. takenMemory (boxAfter s m cs .state) other f (timeOf x y);
+  leaves = λ cs f x y other. takenMemory (boxAfter s m cs .state) other f (arrivalTime x y);
   memory = λ cs. boxAfter s m cs .memory;
   verdict = λ cs. deviceVerdict (boxAfter s m cs .state);
   counts = λ cs. boxAfter s m cs .state .stream .run;
@@ -122,12 +122,12 @@ module _ (s m : List ℕ) (before : List Call) (w : ℕ) (a : List ℕ) (mid : L
   -- its bytes then stand at the start of the slot
   abbrev pub StoredInIt : Type 0
   StoredInIt = (f : List ℕ) (x y : ℕ) (other : List ℕ) → Accepted → wholes since ≡ i
-      → told (paperAfter s m upTo) (arrival f x y other) (reply (boxAfter s m upTo) (arrival f x y other)) ≡ whole f (timeOf x y)
+      → told (paperAfter s m upTo) (arrival f x y other) (reply (boxAfter s m upTo) (arrival f x y other)) ≡ whole f (arrivalTime x y)
       → (reply (boxAfter s m upTo) (arrival f x y other) ≡ taken (Stored (wordAt a 0) (paperAfter s m upTo .run .accepted)))
       × (take (length f) (drop (slotOffset (wordAt a 0) (paperAfter s m upTo .size)) (next (boxAfter s m upTo) (arrival f x y other) .memory)) ≡ f)
 
 -- The whole accepted arrival among calls before which n whole ones came.
-pub record Arrival (b : Box) (p : Paper) (cs : List Call) (n : ℕ) : Type 0 where
+pub record ArrivalAmong (b : Box) (p : Paper) (cs : List Call) (n : ℕ) : Type 0 where
   pub front : List Call
   pub frame : List ℕ
   pub seconds : ℕ
@@ -136,7 +136,7 @@ pub record Arrival (b : Box) (p : Paper) (cs : List Call) (n : ℕ) : Type 0 whe
   pub back : List Call
   pub is : cs ≡ front ++ arrival frame seconds microseconds other ∷ back
   pub accepted : told (noted p (events b p front)) (arrival frame seconds microseconds other) (reply (after b front) (arrival frame seconds microseconds other))
-      ≡ whole frame (timeOf seconds microseconds)
+      ≡ whole frame (arrivalTime seconds microseconds)
   pub place : wholes (events b p front) ≡ n
 
 module _ (s m : List ℕ) (before : List Call) (w : ℕ) (a : List ℕ) (mid : List Call) where
@@ -145,10 +145,10 @@ module _ (s m : List ℕ) (before : List Call) (w : ℕ) (a : List ℕ) (mid : L
   abbrev pub ReturnedWithIt : Type 0
   ReturnedWithIt = (v : ℕ) (c b : List ℕ) → Accepted s m before w a mid → dequeues (since s m before w a mid) ≡ o s m before w a mid + i s m before w a mid
       → requestOf v .call ≡ Dqbuf → reply (boxAfter s m (upTo s m before w a mid)) (request v c) ≡ answered 0 b
-      → (r : Arrival (boxAfter s m (queued s m before w a mid)) (paperAfter s m (queued s m before w a mid)) mid (i s m before w a mid))
+      → (r : ArrivalAmong (boxAfter s m (queued s m before w a mid)) (paperAfter s m (queued s m before w a mid)) mid (i s m before w a mid))
       × (wordAt b 0 ≡ wordAt a 0)
       × (wordAt b 44 ≡ paperAfter s m (upTo s m before w a (r .front)) .run .accepted)
       × (wordAt b 8 ≡ length (r .frame))
-      × (signedAt b 20 ≡ timeOf (r .seconds) (r .microseconds) .seconds)
-      × (signedAt b 24 ≡ timeOf (r .seconds) (r .microseconds) .microseconds)
+      × (signedAt b 20 ≡ arrivalTime (r .seconds) (r .microseconds) .seconds)
+      × (signedAt b 24 ≡ arrivalTime (r .seconds) (r .microseconds) .microseconds)
       × (take (length (r .frame)) (drop (wordAt b 52) (boxAfter s m (upTo s m before w a mid) .memory)) ≡ r .frame)

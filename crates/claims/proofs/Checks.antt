@@ -4,21 +4,21 @@ use mathlib.Core.Bool.{true, cond, not, _&&_, _||_}
 use mathlib.Core.List.{List, [], _∷_}
 use lib.Dec.{eqb, leb}
 use lib.ListN.{length}
-use Rattle.wire.specs.Words.{wordAt}
-use Rattle.ioctl.specs.Table.{requestOf}
-use Rattle.ioctl.specs.declared.refusals.Refusal.the-variants.{ArgumentLength, MemoryLength, Closed, UnknownWord, NoSuchIndex, NoSuchControl, NotDequeued, NoBuffers, ControlDisabled, ControlReadOnly, ControlIsButton, BuffersExist, Streaming, ControlGrabbed, OutOfRange, NothingOutgoing, RunFull}
-use Rattle.ioctl.specs.declared.table.Call.{Call}
-use Rattle.ioctl.specs.declared.table.Call.the-variants.{Unknown, Querycap, EnumFmt, GFmt, SFmt, TryFmt, Reqbufs, Querybuf, Qbuf, Dqbuf, Streamon, Streamoff, GCtrl, SCtrl, Queryctrl, Cropcap, GCrop, SCrop}
-use Rattle.fields.specs.Fields.{formatCount}
-use Rattle.control.specs.Find.{present, placeOf, queriedPlace}
-use Rattle.buffers.specs.Moves.{isIncoming, isOutgoing}
-use Rattle.stream.specs.Stream.{streaming}
-use Rattle.state.specs.State.{State}
-use Rattle.buffers.specs.declared.Time.{Time}
-use Rattle.arrival.specs.declared.Arrival.{Arrival}
-use Rattle.arrival.specs.declared.Arrival.the-variants.{Ignored, Damaged}
-use Rattle.arrival.specs.Arrivals.{runLimit}
-use Rattle.arrival.specs.Picture.{wholePicture}
+use Rattle.wire_read.specs.Words.{wordAt}
+use Rattle.ioctl_table.specs.Table.{requestOf}
+use Rattle.ioctl_table.specs.declared.refusals.Refusal.the-variants.{ArgumentLength, MemoryLength, Closed, UnknownWord, NoSuchIndex, NoSuchControl, NotDequeued, NoBuffers, ControlDisabled, ControlReadOnly, ControlIsButton, BuffersExist, Streaming, ControlGrabbed, OutOfRange, NothingOutgoing, RunFull}
+use Rattle.ioctl_table.specs.declared.table.Call.{Call}
+use Rattle.ioctl_table.specs.declared.table.Call.the-variants.{Unknown, Querycap, EnumFmt, GFmt, SFmt, TryFmt, Reqbufs, Querybuf, Qbuf, Dqbuf, Streamon, Streamoff, GCtrl, SCtrl, Queryctrl, Cropcap, GCrop, SCrop}
+use Rattle.sheet_contents.specs.Contents.{formatCount}
+use Rattle.control_place_rules.specs.Find.{present, placeOf, queriedPlace}
+use Rattle.stream_words.specs.Moves.{isIncoming, isOutgoing}
+use Rattle.stream_run.specs.Stream.{streaming}
+use Rattle.device_state.specs.State.{State}
+use Rattle.stream_words.specs.declared.Time.{Time}
+use Rattle.stream_arrival.specs.declared.Arrival.{Arrival}
+use Rattle.stream_arrival.specs.declared.Arrival.the-variants.{Ignored, Damaged}
+use Rattle.stream_arrival.specs.Arrivals.{runLimit}
+use Rattle.picture_rules.specs.Picture.{wholePicture}
 use Rattle.claims.specs.Table.{Check, check, wrongType, wrongMemory, named, outOfRange, placedOn}
 
 -- the tests of each call, its argument having the length that its word says

@@ -6,63 +6,63 @@ use native.Mathlib.Omega.{arith}
 use lib.Dec.{eqb}
 use mathlib.Core.List.{List, [], _∷_, _++_, map, append-assoc}
 use lib.ListN.{length, take, drop}
-use Rattle.wire.specs.Words.{wordAt}
-use Rattle.wire.specs.Signed.{signedAt}
-use Rattle.ioctl.specs.Table.{requestOf}
-use Rattle.ioctl.specs.declared.table.Call.{Call as Asked}
-use Rattle.ioctl.specs.declared.table.Call.the-variants.{Unknown, Querycap, EnumFmt, GFmt, SFmt, TryFmt, Reqbufs, Querybuf, Qbuf, Dqbuf, Streamon, Streamoff, GCtrl, SCtrl, Queryctrl, Cropcap, GCrop, SCrop}
-use Rattle.format.proofs.Bounds.{image-fits}
-use Rattle.geometry.specs.Geometry.{lineAlignment}
-use Rattle.buffers.specs.declared.Time.{Time}
-use Rattle.buffers.specs.Slot.{slotOffset}
-use Rattle.buffers.proofs.Slots.{slots-apart}
-use Rattle.arrival.specs.declared.Arrival.the-variants as arrivals
-use Rattle.arrival.specs.Arrivals.{runLimit}
-use Rattle.arrival.specs.Picture.{wholePicture}
-use Rattle.status.specs.declared.Status.{Status}
-use Rattle.status.specs.declared.Verdict.{Verdict}
-use Rattle.status.specs.declared.Verdict.the-variants.{Running, Blank, Gaps, Complete}
-use Rattle.status.specs.Buffer.{describedOf, returnedOf}
-use Rattle.replies.specs.Replies.{bufferReply}
-use Rattle.replies.proofs.Words.{buffer-index, buffer-used, buffer-number, buffer-offset, buffer-seconds, buffer-microseconds}
-use Rattle.state.specs.State.{closedState}
-use Rattle.device.specs.Film.{deviceVerdict}
-use Rattle.history.specs.Paper.{Pair, Paper, Event, indexOf, blank, refusedArrival, frameOf, filled, step, noted, wholes, dequeues, Calm}
-use Rattle.history.specs.Paper.Event.{put, whole, damaged, handed, begun, idle}
-use Rattle.history.specs.Claims.{_⇔_}
-use Rattle.history.proofs.Lists.{All, all-append}
-use Rattle.history.proofs.Sound.{Fits, sound-blank}
-use Rattle.history.proofs.Numbers.{Ordered, ordered-after, ordered-blank}
-use Rattle.history.proofs.Tied.{Tied, Held, entry, placedAs, firstOf}
-use Rattle.history.proofs.Order.{At, Leaves, pairOf, comes-first, leaves}
-use Rattle.history.proofs.Machine.{leaves-append, noted-tells, Cut, cut, keeps-after, legal-tells}
-use Rattle.history.proofs.InOrder.{isWhole, never}
-use Rattle.history.proofs.Meanings.{Means, exactly}
+use Rattle.wire_read.specs.Words.{wordAt}
+use Rattle.wire_signed.specs.Signed.{signedAt}
+use Rattle.ioctl_table.specs.Table.{requestOf}
+use Rattle.ioctl_table.specs.declared.table.Call.{Call as Asked}
+use Rattle.ioctl_table.specs.declared.table.Call.the-variants.{Unknown, Querycap, EnumFmt, GFmt, SFmt, TryFmt, Reqbufs, Querybuf, Qbuf, Dqbuf, Streamon, Streamoff, GCtrl, SCtrl, Queryctrl, Cropcap, GCrop, SCrop}
+use Rattle.format_rules.proofs.Bounds.{image-fits}
+use Rattle.sheet_geometry.specs.Geometry.{lineAlignment}
+use Rattle.stream_words.specs.declared.Time.{Time}
+use Rattle.stream_slots.specs.Slot.{slotOffset}
+use Rattle.stream_slots.proofs.Slots.{slots-apart}
+use Rattle.stream_arrival.specs.declared.Arrival.the-variants as arrivals
+use Rattle.stream_arrival.specs.Arrivals.{runLimit}
+use Rattle.picture_rules.specs.Picture.{wholePicture}
+use Rattle.stream_status.specs.declared.Status.{Status}
+use Rattle.stream_verdict.specs.declared.Verdict.{Verdict}
+use Rattle.stream_verdict.specs.declared.Verdict.the-variants.{Running, Blank, Gaps, Complete}
+use Rattle.stream_status.specs.Buffer.{describedOf, returnedOf}
+use Rattle.buffer_replies.specs.Replies.{bufferReply}
+use Rattle.buffer_replies.proofs.Lengths.{buffer-index, buffer-used, buffer-number, buffer-offset, buffer-seconds, buffer-microseconds}
+use Rattle.device_state.specs.State.{closedState}
+use Rattle.device_film.specs.Film.{deviceVerdict}
+use Rattle.stream_history.specs.Paper.{Pair, Paper, Event, indexOf, blank, refusedArrival, frameOf, filled, step, noted, wholes, dequeues, Calm}
+use Rattle.stream_history.specs.Paper.Event.{put, whole, damaged, handed, begun, idle}
+use Rattle.stream_history.specs.Claims.{_⇔_}
+use Rattle.stream_history.proofs.Lists.{All, all-append}
+use Rattle.stream_history.proofs.Sound.{Fits, sound-blank}
+use Rattle.stream_history.proofs.Numbers.{Ordered, ordered-after, ordered-blank}
+use Rattle.stream_history.proofs.Tied.{Tied, Held, entry, placedAs, firstOf}
+use Rattle.stream_history.proofs.Order.{At, Leaves, pairOf, comes-first, leaves}
+use Rattle.stream_history.proofs.Machine.{leaves-append, noted-tells, Cut, cut, keeps-after, legal-tells}
+use Rattle.stream_history.proofs.InOrder.{isWhole, never}
+use Rattle.stream_history.proofs.Meanings.{Means, exactly}
 use Rattle.claims.specs.Calls.Call.{request, arrival}
 use Rattle.claims.specs.Calls.Reply.{answered, taken}
 use Rattle.claims.proofs.Steps.{view, Timed, Safe, Foretold}
 use Rattle.claims.proofs.Open.{fits-next, foretold-next, safe-next}
 use Rattle.claims.proofs.Shut.{Shut, shut-request, shut-after, closed-shut, Begun, begins}
-use Rattle.claims.specs.Calls.{Call, timeOf}
-use Rattle.claims.proofs.Boxes.{Box, opened, asks, arrives, reply, next, after, events, paperAfter, handedAfter, boxAfter, StoredInIt, Arrival, ReturnedWithIt}
+use Rattle.claims.specs.Calls.{Call, arrivalTime}
+use Rattle.claims.proofs.Boxes.{Box, opened, asks, arrives, reply, next, after, events, paperAfter, handedAfter, boxAfter, StoredInIt, ArrivalAmong, ReturnedWithIt}
 use Rattle.claims.specs.Words.{requestTold, told, openingSize}
 
 -- ---- at one moment
 
 -- the first incoming buffer is k: a whole arrival is stored there
 stored-now : (b : Box) (p : Paper) (k : ℕ) (r : List ℕ) (f : List ℕ) (x y : ℕ) (other : List ℕ) → Safe b p → p .incoming ≡ k ∷ r
-    → told p (arrival f x y other) (reply b (arrival f x y other)) ≡ whole f (timeOf x y)
+    → told p (arrival f x y other) (reply b (arrival f x y other)) ≡ whole f (arrivalTime x y)
     → (reply b (arrival f x y other) ≡ taken (arrivals.Stored k (p .run .accepted)))
     × (take (length f) (drop (slotOffset k (p .size)) (next b (arrival f x y other) .memory)) ≡ f)
 stored-now b p k r f x y other s e h =
     let c : Call = arrival f x y other in
     let a : reply b c ≡ taken (placedAs (p .incoming) (p .run .accepted)) = subst (λ (v : Event). Foretold p v (reply b c)) h (foretold-next b p c s) in
-    let n : Tied (view (next b c)) (step p (whole f (timeOf x y))) = subst (λ (v : Event). Tied (view (next b c)) (step p v)) h (safe-next b p c s .kept .tied) in
+    let n : Tied (view (next b c)) (step p (whole f (arrivalTime x y))) = subst (λ (v : Event). Tied (view (next b c)) (step p v)) h (safe-next b p c s .kept .tied) in
     let m : List ℕ = next b c .memory in
-    let all : All (Held (p .size) m) (filled (k ∷ r) (frameOf p f (timeOf x y)) (p .outgoing)) =
-    subst (λ (l : List ℕ). All (Held (p .size) m) (filled l (frameOf p f (timeOf x y)) (p .outgoing))) e (n .held) in (
+    let all : All (Held (p .size) m) (filled (k ∷ r) (frameOf p f (arrivalTime x y)) (p .outgoing)) =
+    subst (λ (l : List ℕ). All (Held (p .size) m) (filled l (frameOf p f (arrivalTime x y)) (p .outgoing))) e (n .held) in (
       a ∙ ap (λ (l : List ℕ). taken (placedAs l (p .run .accepted))) e,
-      all-append (Held (p .size) m) (p .outgoing) (pairOf k p f (timeOf x y) ∷ []) all .1 .0 .1,
+      all-append (Held (p .size) m) (p .outgoing) (pairOf k p f (arrivalTime x y) ∷ []) all .1 .0 .1,
     )
 
 -- What the answer of a dequeue says of x, the pair that it hands over.
@@ -117,7 +117,7 @@ record IsArrival (c : Call) (f : List ℕ) (t : Time) : Type 0 where
   microseconds : ℕ
   other : List ℕ
   is : c ≡ arrival f seconds microseconds other
-  time : timeOf seconds microseconds ≡ t
+  time : arrivalTime seconds microseconds ≡ t
 
 -- no request tells of one
 not-whole : (p : Paper) (call : Asked) (a b : List ℕ) → isWhole (requestTold p call a b) ≡ false
@@ -146,16 +146,16 @@ whole-call b p (request w a) f t h = go (eqb (asks b w a .number) 0) h
     go : (x : Bool) → cond x (requestTold p (requestOf w .call) a (asks b w a .argument)) idle ≡ whole f t → IsArrival (request w a) f t
     go true e = never (requestTold p (requestOf w .call) a (asks b w a .argument)) f t (not-whole p (requestOf w .call) a (asks b w a .argument)) e
     go false e = never idle f t refl e
-whole-call b p (arrival g x y other) f t h = go (refusedArrival (arrives b g x y other .arrival)) (p .running) (wholePicture (length g) (p .size) (timeOf x y)) h
+whole-call b p (arrival g x y other) f t h = go (refusedArrival (arrives b g x y other .arrival)) (p .running) (wholePicture (length g) (p .size) (arrivalTime x y)) h
   where
-    go : (u v w : Bool) → cond u idle (cond v (cond w (whole g (timeOf x y)) damaged) idle) ≡ whole f t → IsArrival (arrival g x y other) f t
+    go : (u v w : Bool) → cond u idle (cond v (cond w (whole g (arrivalTime x y)) damaged) idle) ≡ whole f t → IsArrival (arrival g x y other) f t
     go true v w e = never idle f t refl e
     go false false w e = never idle f t refl e
     go false true false e = never damaged f t refl e
     go false true true e = record { seconds = x; microseconds = y; other = other; is = cc e; time = cc e }
 
 arrival-of : (b : Box) (p : Paper) (cs : List Call) (n : ℕ) (a : At (events b p cs) n) (c : Cut reply next told b p cs (a .front) (whole (a .bytes) (a .time)))
-    → IsArrival (c .call) (a .bytes) (a .time) → Arrival b p cs n
+    → IsArrival (c .call) (a .bytes) (a .time) → ArrivalAmong b p cs n
 arrival-of b p cs n a c k = record {
   front = c .fore;
   frame = a .bytes;
@@ -175,7 +175,7 @@ safe-after = keeps-after reply next told Safe safe-next
 
 stores-at : (b : Box) (p : Paper) (k : ℕ) (mid : List Call) (f : List ℕ) (x y : ℕ) (other : List ℕ) → Safe b (step p (put k))
     → Calm (events b (step p (put k)) mid) → wholes (events b (step p (put k)) mid) ≡ length (p .incoming)
-    → told (noted (step p (put k)) (events b (step p (put k)) mid)) (arrival f x y other) (reply (after b mid) (arrival f x y other)) ≡ whole f (timeOf x y)
+    → told (noted (step p (put k)) (events b (step p (put k)) mid)) (arrival f x y other) (reply (after b mid) (arrival f x y other)) ≡ whole f (arrivalTime x y)
     → (reply (after b mid) (arrival f x y other) ≡ taken (arrivals.Stored k (noted (step p (put k)) (events b (step p (put k)) mid) .run .accepted)))
     × (take (length f) (drop (slotOffset k (noted (step p (put k)) (events b (step p (put k)) mid) .size)) (next (after b mid) (arrival f x y other) .memory)) ≡ f)
 stores-at b p k mid f x y other s c n h =
@@ -185,12 +185,12 @@ stores-at b p k mid f x y other s c n h =
 -- what comes back: the arrival before which n whole ones came
 abbrev ComesBack : Box → Paper → ℕ → List Call → List ℕ → ℕ → Type 0
 ComesBack b q k mid a n =
-    (r : Arrival b q mid n)
+    (r : ArrivalAmong b q mid n)
     × (wordAt a 0 ≡ k)
     × (wordAt a 44 ≡ noted q (events b q (r .front)) .run .accepted)
     × (wordAt a 8 ≡ length (r .frame))
-    × (signedAt a 20 ≡ timeOf (r .seconds) (r .microseconds) .seconds)
-    × (signedAt a 24 ≡ timeOf (r .seconds) (r .microseconds) .microseconds)
+    × (signedAt a 20 ≡ arrivalTime (r .seconds) (r .microseconds) .seconds)
+    × (signedAt a 24 ≡ arrivalTime (r .seconds) (r .microseconds) .microseconds)
     × (take (length (r .frame)) (drop (wordAt a 52) (after b mid .memory)) ≡ r .frame)
 
 returns-at : (b : Box) (p : Paper) (k : ℕ) (mid : List Call) (v : ℕ) (c a : List ℕ) → Safe b (step p (put k))

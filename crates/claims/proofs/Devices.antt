@@ -5,9 +5,9 @@ use Prim.Native.Nat.{ℕ}
 use lib.Dec.{eqb}
 use mathlib.Core.List.{List, [], _∷_}
 use lib.ListN.{length}
-use Rattle.device.specs.Opening.{Whole, openedOf}
-use Rattle.device.specs.Film.{takenOf, takenMemory}
-use Rattle.claims.specs.Calls.{Call, timeOf}
+use Rattle.device_opening.specs.Opening.{Whole, openedOf}
+use Rattle.device_film.specs.Film.{takenOf, takenMemory}
+use Rattle.claims.specs.Calls.{Call, arrivalTime}
 use Rattle.claims.specs.Calls.Call.{request, arrival}
 use Rattle.claims.specs.Machine.{Session}
 use Rattle.claims.specs.Device.{Kept, takes, goesOn, keptAfter, machineOf, ourDevice}
@@ -27,8 +27,8 @@ same-next b (arrival f x y other) = go (eqb (length other) (length (b .memory)))
   where
     kept : Bool → List ℕ → Kept Whole
     kept v m = record {
-      device = record { sheet = b .sheet; state = takenOf (b .state) (length (cond v (b .memory) other)) (length f) (timeOf x y) .state };
-      memory = cond v (takenMemory (b .state) m f (timeOf x y)) (b .memory);
+      device = record { sheet = b .sheet; state = takenOf (b .state) (length (cond v (b .memory) other)) (length f) (arrivalTime x y) .state };
+      memory = cond v (takenMemory (b .state) m f (arrivalTime x y)) (b .memory);
     }
 
     go : (v : Bool) → kept v (cond v (b .memory) other) ≡ kept v (b .memory)

@@ -8,22 +8,23 @@ use lib.Dec.{eqb}
 use mathlib.Core.List.{List}
 use lib.ListN.{length}
 use lib.Seq.{sets}
-use Rattle.wire.specs.Words.{wordAt}
-use Rattle.wire.proofs.Stores.{sets-all}
-use Rattle.ioctl.specs.Table.{argumentSize, requestOf}
-use Rattle.ioctl.specs.declared.table.Call.{Call}
-use Rattle.ioctl.specs.declared.table.Call.the-variants.{SFmt, TryFmt, GFmt}
-use Rattle.ioctl.proofs.Numbers.{errno-positive}
-use Rattle.ioctl.specs.declared.refusals.Refusal.{Refusal}
-use Rattle.ioctl.specs.declared.refusals.Refusal.the-variants.{ArgumentLength, Closed, UnknownWord, WrongType, BuffersExist}
-use Rattle.negotiation.specs.Negotiation.{negotiated, askedFormat}
-use Rattle.negotiation.specs.Answer.{formatReply}
-use Rattle.negotiation.proofs.Reply.{reply-length}
-use Rattle.state.specs.State.{State}
-use Rattle.state.specs.State.{withFormat}
-use Rattle.state.specs.Answers.{Answer, done, refused}
-use Rattle.settings.specs.Settings.{gFmtOf, sFmtOf, tryFmtOf, toldFormat}
-use Rattle.requests.specs.Request.{callAnswer, requestAnswer}
+use Rattle.wire_read.specs.Words.{wordAt}
+use Rattle.wire_read.proofs.Stores.{sets-all}
+use Rattle.ioctl_table.specs.Table.{argumentSize, requestOf}
+use Rattle.ioctl_table.specs.declared.table.Call.{Call}
+use Rattle.ioctl_table.specs.declared.table.Call.the-variants.{SFmt, TryFmt, GFmt}
+use Rattle.ioctl_table.proofs.Numbers.{errno-positive}
+use Rattle.ioctl_table.specs.declared.refusals.Refusal.{Refusal}
+use Rattle.ioctl_table.specs.declared.refusals.Refusal.the-variants.{ArgumentLength, Closed, UnknownWord, WrongType, BuffersExist}
+use Rattle.negotiation_rules.specs.Negotiation.{negotiated, askedFormat}
+use Rattle.negotiation_rules.specs.Answer.{formatReply}
+use Rattle.negotiation_rules.proofs.Reply.{reply-length}
+use Rattle.device_state.specs.State.{State}
+use Rattle.device_state.specs.State.{withFormat}
+use Rattle.device_state.specs.Answers.{Answer, done, refused}
+use Rattle.format_calls.specs.Formats.{gFmtOf}
+use Rattle.negotiation_calls.specs.Negotiations.{sFmtOf, tryFmtOf, toldFormat}
+use Rattle.request_topics.specs.Request.{callAnswer, requestAnswer}
 
 -- a request that is accepted got to its call, with an argument of its length
 pub record Reached (s : List ℕ) (d : State) (w : ℕ) (a : List ℕ) : Type 0 where

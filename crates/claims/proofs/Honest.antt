@@ -7,31 +7,35 @@ use lib.Dec.{eqb, leb}
 use mathlib.Core.List.{List}
 use lib.ListN.{length, set}
 use lib.Seq.{sets, length-sets}
-use Rattle.wire.specs.Words.{wordAt}
-use Rattle.ioctl.specs.Refusal.{errnoOf}
-use Rattle.ioctl.specs.Table.{requestOf}
-use Rattle.ioctl.specs.declared.refusals.Refusal.{Refusal}
-use Rattle.ioctl.specs.declared.refusals.Refusal.the-variants.{ArgumentLength, Closed, UnknownWord, WrongType, NoSuchIndex, NoSuchControl, BuffersExist}
-use Rattle.ioctl.specs.declared.table.Call.{Call}
-use Rattle.ioctl.specs.declared.table.Call.the-variants.{Unknown, Querycap, EnumFmt, GFmt, SFmt, TryFmt, Reqbufs, Querybuf, Qbuf, Dqbuf, Streamon, Streamoff, GCtrl, SCtrl, Queryctrl, Cropcap, GCrop, SCrop}
-use Rattle.fields.specs.Fields.{formatCount}
-use Rattle.control.specs.Find.{present, queriedPlace}
-use Rattle.control.specs.Values.{reading, settingOf}
-use Rattle.control.specs.declared.Reading.{Reading}
-use Rattle.control.specs.declared.Reading.the-variants as reads
-use Rattle.control.specs.declared.Setting.{Setting}
-use Rattle.control.specs.declared.Setting.the-variants as settings
-use Rattle.negotiation.specs.Negotiation.{negotiated, askedFormat}
-use Rattle.negotiation.specs.Answer.{formatReply}
-use Rattle.replies.specs.Replies.{capabilityReply, descriptionReply, controlReply, valueReply, cropReply, cropCapabilityReply}
-use Rattle.state.specs.State.{State}
-use Rattle.state.specs.State.{withFormat, withValues, withStream}
-use Rattle.state.specs.Answers.{Answer, answer, done, refused}
-use Rattle.settings.specs.Settings.{querycapOf, enumFmtOf, gFmtOf, toldFormat, sFmtOf, tryFmtOf, cropcapOf, gCropOf, sCropOf}
-use Rattle.controls.specs.Controls.{queryctrlOf, gCtrlOf, sCtrlOf, readAs, setAs}
-use Rattle.streaming.specs.Streaming.{StreamAnswer}
-use Rattle.streaming.proofs.Refused.{HonestStream, reqbufs-honest, querybuf-honest, qbuf-honest, dqbuf-honest, streamon-honest, streamoff-honest}
-use Rattle.requests.specs.Request.{byStream, callAnswer, requestAnswer}
+use Rattle.wire_read.specs.Words.{wordAt}
+use Rattle.ioctl_table.specs.Refusal.{errnoOf}
+use Rattle.ioctl_table.specs.Table.{requestOf}
+use Rattle.ioctl_table.specs.declared.refusals.Refusal.{Refusal}
+use Rattle.ioctl_table.specs.declared.refusals.Refusal.the-variants.{ArgumentLength, Closed, UnknownWord, WrongType, NoSuchIndex, NoSuchControl, BuffersExist}
+use Rattle.ioctl_table.specs.declared.table.Call.{Call}
+use Rattle.ioctl_table.specs.declared.table.Call.the-variants.{Unknown, Querycap, EnumFmt, GFmt, SFmt, TryFmt, Reqbufs, Querybuf, Qbuf, Dqbuf, Streamon, Streamoff, GCtrl, SCtrl, Queryctrl, Cropcap, GCrop, SCrop}
+use Rattle.sheet_contents.specs.Contents.{formatCount}
+use Rattle.control_place_rules.specs.Find.{present, queriedPlace}
+use Rattle.control_value_rules.specs.Values.{reading, settingOf}
+use Rattle.control_value_rules.specs.declared.Reading.{Reading}
+use Rattle.control_value_rules.specs.declared.Reading.the-variants as reads
+use Rattle.control_value_rules.specs.declared.Setting.{Setting}
+use Rattle.control_value_rules.specs.declared.Setting.the-variants as settings
+use Rattle.negotiation_rules.specs.Negotiation.{negotiated, askedFormat}
+use Rattle.negotiation_rules.specs.Answer.{formatReply}
+use Rattle.format_replies.specs.Replies.{capabilityReply, descriptionReply}
+use Rattle.control_replies.specs.Replies.{controlReply, valueReply}
+use Rattle.crop_replies.specs.Replies.{cropReply, cropCapabilityReply}
+use Rattle.device_state.specs.State.{State}
+use Rattle.device_state.specs.State.{withFormat, withValues, withStream}
+use Rattle.device_state.specs.Answers.{Answer, answer, done, refused}
+use Rattle.format_calls.specs.Formats.{querycapOf, enumFmtOf, gFmtOf}
+use Rattle.negotiation_calls.specs.Negotiations.{toldFormat, sFmtOf, tryFmtOf}
+use Rattle.crop_calls.specs.Crops.{cropcapOf, gCropOf, sCropOf}
+use Rattle.control_calls.specs.Controls.{queryctrlOf, gCtrlOf, sCtrlOf, readAs, setAs}
+use Rattle.buffer_calls.specs.Buffers.{StreamAnswer}
+use Rattle.run_calls.proofs.Refused.{HonestStream, reqbufs-honest, querybuf-honest, qbuf-honest, dqbuf-honest, streamon-honest, streamoff-honest}
+use Rattle.request_topics.specs.Request.{byStream, callAnswer, requestAnswer}
 
 -- a refusal changes nothing, and the argument keeps its length
 pub record Honest (d : State) (a : List ℕ) (r : Answer) : Type 0 where

@@ -5,15 +5,15 @@ use Prim.Native.Nat.{ℕ}
 use lib.Dec.{ltb}
 use mathlib.Core.List.{List, [], _∷_, _++_}
 use lib.ListN.{length}
-use Rattle.ioctl.specs.declared.refusals.Refusal.the-variants.{BadSheet, MemoryTooLong}
-use Rattle.fields.specs.Copy.{keptOf}
-use Rattle.sheet.specs.Rules.{goodSheet}
-use Rattle.state.specs.State.{closedState}
-use Rattle.device.specs.Opening.{Opened, longestMemory, closedBy, openedOf}
-use Rattle.device.specs.Film.{takenMemory, deviceVerdict, devicePlace}
-use Rattle.history.specs.Paper.{Paper, Event, blank, step, noted}
-use Rattle.history.proofs.Machine.{leaves-append, keeps-after}
-use Rattle.claims.specs.Calls.{Call, timeOf}
+use Rattle.ioctl_table.specs.declared.refusals.Refusal.the-variants.{BadSheet, MemoryTooLong}
+use Rattle.sheet_copy.specs.Copy.{keptOf}
+use Rattle.sheet_rules.specs.Rules.{goodSheet}
+use Rattle.device_state.specs.State.{closedState}
+use Rattle.device_opening.specs.Opening.{Opened, longestMemory, closedBy, openedOf}
+use Rattle.device_film.specs.Film.{takenMemory, deviceVerdict, devicePlace}
+use Rattle.stream_history.specs.Paper.{Paper, Event, blank, step, noted}
+use Rattle.stream_history.proofs.Machine.{leaves-append, keeps-after}
+use Rattle.claims.specs.Calls.{Call, arrivalTime}
 use Rattle.claims.specs.Calls.Call.{request, arrival}
 use Rattle.claims.specs.Machine.{more, replyIn, NoTrace}
 use Rattle.claims.specs.Words.{told, openingSize, eventsIn, paperIn}
@@ -50,7 +50,7 @@ module _ (s m : List ℕ) where
       leaves-append reply next told cs (c ∷ ds) (opened s m) ∙ ap (λ (b : Box). after b ds) e ∙ sym (leaves-append reply next told cs ds (opened s m)) in
       record {
         reply = λ d. same-reply (cs ++ c ∷ ds) d ∙ ap (λ (b : Box). reply b d) same ∙ sym (same-reply (cs ++ ds) d);
-        leaves = λ f x y other. ap (λ (b : Box). takenMemory (b .state) other f (timeOf x y)) same;
+        leaves = λ f x y other. ap (λ (b : Box). takenMemory (b .state) other f (arrivalTime x y)) same;
         memory = ap (λ (b : Box). b .memory) same;
         verdict = ap (λ (b : Box). deviceVerdict (b .state)) same;
         counts = ap (λ (b : Box). b .state .stream .run) same;

@@ -8,30 +8,30 @@ use lib.Dec.{leb, eqb}
 use mathlib.Core.List.{List, [], _∷_}
 use lib.ListN.{length}
 use lib.Seq.{length-sets}
-use Rattle.wire.proofs.Integers.{signed-fits}
-use Rattle.ioctl.specs.Table.{requestOf}
-use Rattle.buffers.specs.declared.Time.{Time}
-use Rattle.buffers.specs.Slot.{slotOffset}
-use Rattle.arrival.specs.declared.Arrival.{Arrival}
-use Rattle.arrival.specs.declared.Arrival.the-variants as arrivals
-use Rattle.arrival.specs.Arrivals.{Arrived}
-use Rattle.arrival.specs.Arrivals.{writtenBy}
-use Rattle.arrival.specs.Picture.{inSecond, wholePicture}
-use Rattle.state.specs.State.{withStream}
-use Rattle.device.specs.Film.{Taken}
-use Rattle.device.specs.Film.{pictureArrives, takenOf, takenMemory}
-use Rattle.history.specs.Calls.{World}
-use Rattle.history.specs.Calls.Call.{arrival as comes}
-use Rattle.history.specs.Calls.Answer.{arrived}
-use Rattle.history.specs.Paper.{Frame, Pair, Paper, Event, refusedArrival, frameOf, rest, filled, step}
-use Rattle.history.specs.Paper.Event.{put, whole, damaged, handed, begun, ended, sized, idle}
-use Rattle.history.proofs.Lists.{All, all-snoc}
-use Rattle.history.proofs.Sound.{Fits, sound-step}
-use Rattle.history.proofs.Tied.{Tied, Answers, follows}
+use Rattle.wire_signed.proofs.Integers.{signed-fits}
+use Rattle.ioctl_table.specs.Table.{requestOf}
+use Rattle.stream_words.specs.declared.Time.{Time}
+use Rattle.stream_slots.specs.Slot.{slotOffset}
+use Rattle.stream_arrival.specs.declared.Arrival.{Arrival}
+use Rattle.stream_arrival.specs.declared.Arrival.the-variants as arrivals
+use Rattle.stream_arrival.specs.Arrivals.{Arrived}
+use Rattle.stream_arrival.specs.Arrivals.{writtenBy}
+use Rattle.picture_rules.specs.Picture.{inSecond, wholePicture}
+use Rattle.device_state.specs.State.{withStream}
+use Rattle.device_film.specs.Film.{Taken}
+use Rattle.device_film.specs.Film.{pictureArrives, takenOf, takenMemory}
+use Rattle.stream_history.specs.Calls.{World}
+use Rattle.stream_history.specs.Calls.Call.{arrival as comes}
+use Rattle.stream_history.specs.Calls.Answer.{arrived}
+use Rattle.stream_history.specs.Paper.{Frame, Pair, Paper, Event, refusedArrival, frameOf, rest, filled, step}
+use Rattle.stream_history.specs.Paper.Event.{put, whole, damaged, handed, begun, ended, sized, idle}
+use Rattle.stream_history.proofs.Lists.{All, all-snoc}
+use Rattle.stream_history.proofs.Sound.{Fits, sound-step}
+use Rattle.stream_history.proofs.Tied.{Tied, Answers, follows}
 use Rattle.claims.specs.Calls.Call.{request, arrival}
 use Rattle.claims.specs.Calls.Reply.{taken}
 use Rattle.claims.proofs.Steps.{view, Timed, Sized, Safe, Foretold, Timely, Does, does-request}
-use Rattle.claims.specs.Calls.{Call, timeOf}
+use Rattle.claims.specs.Calls.{Call, arrivalTime}
 use Rattle.claims.proofs.Boxes.{Box, asks, lent, arrives, reply, next}
 use Rattle.claims.specs.Words.{arrivalTold, told}
 
@@ -67,15 +67,15 @@ long-written arrivals.Damaged size m f = refl
 long-written arrivals.Dropped size m f = refl
 long-written (arrivals.Stored k n) size m f = length-sets m (slotOffset k size) f
 
-timed-of : (x y : ℕ) → Timed (timeOf x y)
+timed-of : (x y : ℕ) → Timed (arrivalTime x y)
 timed-of x y = (signed-fits (x % 2 ^ 32) (omega arith), signed-fits (y % 2 ^ 32) (omega arith))
 
 module _ (b : Box) (p : Paper) (safe : Safe b p) (f : List ℕ) (x y : ℕ) (other : List ℕ) where
   -- an open device hands the picture to its stream
-  pub open-taken : (l : ℕ) → takenOf (b .state) l (length f) (timeOf x y)
+  pub open-taken : (l : ℕ) → takenOf (b .state) l (length f) (arrivalTime x y)
       ≡ record {
-        arrival = pictureArrives (b .state) l (length f) (timeOf x y) .arrival;
-        state = withStream (b .state) (pictureArrives (b .state) l (length f) (timeOf x y) .stream);
+        arrival = pictureArrives (b .state) l (length f) (arrivalTime x y) .arrival;
+        state = withStream (b .state) (pictureArrives (b .state) l (length f) (arrivalTime x y) .stream);
       }
   unfolding takenOf
   open-taken l = rw (safe .ready)
@@ -84,25 +84,25 @@ module _ (b : Box) (p : Paper) (safe : Safe b p) (f : List ℕ) (x y : ℕ) (oth
   same-view : (v : Bool)
       → view (record {
         sheet = b .sheet;
-        state = takenOf (b .state) (length (cond v (b .memory) other)) (length f) (timeOf x y) .state;
-        memory = cond v (takenMemory (b .state) (b .memory) f (timeOf x y)) (b .memory);
+        state = takenOf (b .state) (length (cond v (b .memory) other)) (length f) (arrivalTime x y) .state;
+        memory = cond v (takenMemory (b .state) (b .memory) f (arrivalTime x y)) (b .memory);
       })
       ≡ record {
-        stream = pictureArrives (b .state) (length (cond v (b .memory) other)) (length f) (timeOf x y) .stream;
+        stream = pictureArrives (b .state) (length (cond v (b .memory) other)) (length f) (arrivalTime x y) .stream;
         size = b .state .size;
-        memory = cond v (writtenBy (pictureArrives (b .state) (length (cond v (b .memory) other)) (length f) (timeOf x y) .arrival) (b .state .size) (b .memory) f) (b .memory);
+        memory = cond v (writtenBy (pictureArrives (b .state) (length (cond v (b .memory) other)) (length f) (arrivalTime x y) .arrival) (b .state .size) (b .memory) f) (b .memory);
       }
   unfolding takenMemory
   same-view true = rw (open-taken (length (b .memory)))
   same-view false = rw (open-taken (length other))
 
   tells-same : cond (p .running) (arrivalTold p f x y) idle
-      ≡ cond (p .running) (cond (wholePicture (length f) (b .state .size) (timeOf x y) && leb (length f) (p .size)) (whole f (timeOf x y)) damaged) idle
+      ≡ cond (p .running) (cond (wholePicture (length f) (b .state .size) (arrivalTime x y) && leb (length f) (p .size)) (whole f (arrivalTime x y)) damaged) idle
   tells-same =
-      ap (λ (v : Bool). cond (p .running) (cond v (whole f (timeOf x y)) damaged) idle)
-      (sym (whole-short (length f) (p .size) (timeOf x y)) ∙ ap (λ (z : ℕ). wholePicture (length f) z (timeOf x y) && leb (length f) (p .size)) (sym (safe .kept .tied .size)))
+      ap (λ (v : Bool). cond (p .running) (cond v (whole f (arrivalTime x y)) damaged) idle)
+      (sym (whole-short (length f) (p .size) (arrivalTime x y)) ∙ ap (λ (z : ℕ). wholePicture (length f) z (arrivalTime x y) && leb (length f) (p .size)) (sym (safe .kept .tied .size)))
 
-  timely-told : (a r v : Bool) → Timely (cond a idle (cond r (cond v (whole f (timeOf x y)) damaged) idle))
+  timely-told : (a r v : Bool) → Timely (cond a idle (cond r (cond v (whole f (arrivalTime x y)) damaged) idle))
   timely-told true r v = tt
   timely-told false false v = tt
   timely-told false true false = tt
@@ -120,10 +120,10 @@ module _ (b : Box) (p : Paper) (safe : Safe b p) (f : List ℕ) (x y : ℕ) (oth
 
   goes-arrival : Goes b p (arrival f x y other)
   goes-arrival =
-      let fl : Bool = wholePicture (length f) (b .state .size) (timeOf x y) in
+      let fl : Bool = wholePicture (length f) (b .state .size) (arrivalTime x y) in
       let v : Bool = eqb (length other) (length (b .memory)) in
-      let h = follows (view b) p (comes f (timeOf x y) fl other) (safe .kept .tied) (safe .kept .sound) in
-      let r : Arrived = pictureArrives (b .state) (length (lent b other)) (length f) (timeOf x y) in
+      let h = follows (view b) p (comes f (arrivalTime x y) fl other) (safe .kept .tied) (safe .kept .sound) in
+      let r : Arrived = pictureArrives (b .state) (length (lent b other)) (length f) (arrivalTime x y) in
       let same : arrives b f x y other .arrival ≡ r .arrival = ap (λ (z : Taken). z .arrival) (open-taken (length (lent b other))) in
       record {
         event = h .event;
@@ -139,8 +139,8 @@ module _ (b : Box) (p : Paper) (safe : Safe b p) (f : List ℕ) (x y : ℕ) (oth
         long = ap (λ (w : World). length (w .memory)) (same-view v) ∙ go v;
       }
     where
-      go : (v : Bool) → length (cond v (writtenBy (pictureArrives (b .state) (length (cond v (b .memory) other)) (length f) (timeOf x y) .arrival) (b .state .size) (b .memory) f) (b .memory)) ≡ length (b .memory)
-      go true = long-written (pictureArrives (b .state) (length (b .memory)) (length f) (timeOf x y) .arrival) (b .state .size) (b .memory) f
+      go : (v : Bool) → length (cond v (writtenBy (pictureArrives (b .state) (length (cond v (b .memory) other)) (length f) (arrivalTime x y) .arrival) (b .state .size) (b .memory) f) (b .memory)) ≡ length (b .memory)
+      go true = long-written (pictureArrives (b .state) (length (b .memory)) (length f) (arrivalTime x y) .arrival) (b .state .size) (b .memory) f
       go false = refl
 
 -- ---- any call

@@ -6,33 +6,33 @@ use native.Mathlib.Omega.{arith}
 use lib.Dec.{eqb, leb}
 use mathlib.Core.List.{List, [], _∷_, _++_}
 use lib.ListN.{length, take, drop}
-use Rattle.wire.specs.Words.{wordAt}
-use Rattle.wire.specs.Signed.{signedAt}
-use Rattle.ioctl.specs.Table.{requestOf, argumentSize}
-use Rattle.ioctl.specs.declared.table.Call.{Call as Asked}
-use Rattle.ioctl.specs.declared.table.Call.the-variants.{Querybuf}
-use Rattle.ioctl.specs.declared.refusals.Refusal.the-variants.{Closed, MemoryLength, WrongType, NoSuchIndex}
-use Rattle.buffers.specs.Slot.{slotOffset}
-use Rattle.buffers.specs.Moves.{standingOf}
-use Rattle.arrival.specs.declared.Arrival.{Arrival}
-use Rattle.arrival.specs.declared.Arrival.the-variants.{Refused, Stored}
-use Rattle.arrival.specs.Arrivals.{writtenBy}
-use Rattle.status.specs.declared.Status.{Status}
-use Rattle.status.specs.declared.Queried.the-variants as queries
-use Rattle.status.specs.declared.Verdict.the-variants.{Running, Blank, Gaps, Complete}
-use Rattle.status.specs.Buffer.{flagsFor, describedOf, statusOf, queryOf}
-use Rattle.replies.specs.Replies.{bufferReply}
-use Rattle.replies.proofs.Words.{buffer-length, buffer-flags}
-use Rattle.state.specs.State.{State, closedState}
-use Rattle.state.specs.Answers.{Answer, refused}
-use Rattle.streaming.specs.Streaming.{queriedAs, querybufOf}
-use Rattle.requests.specs.Request.{byStream, streamCall, callAnswer}
-use Rattle.device.specs.Film.{takenOf, takenMemory}
-use Rattle.history.specs.Paper.{Paper, blank, handedOver, noted, wholes, dequeues}
-use Rattle.history.specs.Paper.Event.{whole}
-use Rattle.history.specs.Claims.{timesIn, timesOut}
-use Rattle.history.proofs.Machine.{leaves-append, noted-tells}
-use Rattle.claims.specs.Calls.{Call, timeOf}
+use Rattle.wire_read.specs.Words.{wordAt}
+use Rattle.wire_signed.specs.Signed.{signedAt}
+use Rattle.ioctl_table.specs.Table.{requestOf, argumentSize}
+use Rattle.ioctl_table.specs.declared.table.Call.{Call as Asked}
+use Rattle.ioctl_table.specs.declared.table.Call.the-variants.{Querybuf}
+use Rattle.ioctl_table.specs.declared.refusals.Refusal.the-variants.{Closed, MemoryLength, WrongType, NoSuchIndex}
+use Rattle.stream_slots.specs.Slot.{slotOffset}
+use Rattle.stream_words.specs.Moves.{standingOf}
+use Rattle.stream_arrival.specs.declared.Arrival.{Arrival}
+use Rattle.stream_arrival.specs.declared.Arrival.the-variants.{Refused, Stored}
+use Rattle.stream_arrival.specs.Arrivals.{writtenBy}
+use Rattle.stream_status.specs.declared.Status.{Status}
+use Rattle.stream_status.specs.declared.Queried.the-variants as queries
+use Rattle.stream_verdict.specs.declared.Verdict.the-variants.{Running, Blank, Gaps, Complete}
+use Rattle.stream_status.specs.Buffer.{flagsFor, describedOf, statusOf, queryOf}
+use Rattle.buffer_replies.specs.Replies.{bufferReply}
+use Rattle.buffer_replies.proofs.Lengths.{buffer-length, buffer-flags}
+use Rattle.device_state.specs.State.{State, closedState}
+use Rattle.device_state.specs.Answers.{Answer, refused}
+use Rattle.buffer_calls.specs.Buffers.{queriedAs, querybufOf}
+use Rattle.request_topics.specs.Request.{byStream, streamCall, callAnswer}
+use Rattle.device_film.specs.Film.{takenOf, takenMemory}
+use Rattle.stream_history.specs.Paper.{Paper, blank, handedOver, noted, wholes, dequeues}
+use Rattle.stream_history.specs.Paper.Event.{whole}
+use Rattle.stream_history.specs.Claims.{timesIn, timesOut}
+use Rattle.stream_history.proofs.Machine.{leaves-append, noted-tells}
+use Rattle.claims.specs.Calls.{Call, arrivalTime}
 use Rattle.claims.specs.Calls.Call.{request, arrival}
 use Rattle.claims.specs.Calls.Reply.{answered, taken}
 use Rattle.claims.specs.Machine.{more}
@@ -93,14 +93,14 @@ module _ (s m : List ℕ) where
         let cs : List Call = before ++ request w a ∷ mid in
         let (p, q) = demand-3 s m before w a mid .0 f x y other (e, was n, rw same-since at c)
         (ap wholes (sym same-since) ∙ i ∙ ap (λ (p : Paper). length (p .incoming)) (same-paper s m before))
-        (subst (λ (p : Paper). told p (arrival f x y other) (reply (boxAfter s m cs) (arrival f x y other)) ≡ whole f (timeOf x y)) (same-paper s m cs) h) in (
+        (subst (λ (p : Paper). told p (arrival f x y other) (reply (boxAfter s m cs) (arrival f x y other)) ≡ whole f (arrivalTime x y)) (same-paper s m cs) h) in (
           untaken p ∙ ap (λ (p : Paper). Stored (wordAt a 0) (p .run .accepted)) (sym (same-paper s m cs)),
           ap (λ (p : Paper). take (length f) (drop (slotOffset (wordAt a 0) (p .size)) (boxAfter s m (more cs (arrival f x y other)) .memory))) (same-paper s m cs)
               ∙ ap (λ (b : Box). take (length f) (drop (slotOffset (wordAt a 0) (paperAfter s m cs .size)) (b .memory))) (one-more s m cs (arrival f x y other)) ∙ q,
         )
 
     -- the arrival behind it
-    comes : (n : ℕ) → boxes.Arrival (boxAfter s m (more before (request w a))) (paperAfter s m (more before (request w a))) mid n
+    comes : (n : ℕ) → boxes.ArrivalAmong (boxAfter s m (more before (request w a))) (paperAfter s m (more before (request w a))) mid n
         → Comes s (ours s m) (more before (request w a)) mid n
     comes n r =
         let h : List Call = more before (request w a) in
@@ -133,8 +133,8 @@ module _ (s m : List ℕ) where
         × (wordAt (asks (boxAfter s m cs) v c .argument) 0 ≡ wordAt a 0)
         × (wordAt (asks (boxAfter s m cs) v c .argument) 44 ≡ paperIn s (ours s m) (before ++ request w a ∷ r .front) .run .accepted)
         × (wordAt (asks (boxAfter s m cs) v c .argument) 8 ≡ length (r .frame))
-        × (signedAt (asks (boxAfter s m cs) v c .argument) 20 ≡ timeOf (r .seconds) (r .microseconds) .seconds)
-        × (signedAt (asks (boxAfter s m cs) v c .argument) 24 ≡ timeOf (r .seconds) (r .microseconds) .microseconds)
+        × (signedAt (asks (boxAfter s m cs) v c .argument) 20 ≡ arrivalTime (r .seconds) (r .microseconds) .seconds)
+        × (signedAt (asks (boxAfter s m cs) v c .argument) 24 ≡ arrivalTime (r .seconds) (r .microseconds) .microseconds)
         × (take (length (r .frame)) (drop (wordAt (asks (boxAfter s m cs) v c .argument) 52) (boxAfter s m cs .memory)) ≡ r .frame)) (sym i)
         (comes (length (paperAfter s m before .incoming)) r, x1, x2 ∙ ap (λ (p : Paper). p .run .accepted) (sym (same-paper s m (before ++ request w a ∷ r .front))), x3, x4, x5, x6)
 
@@ -151,17 +151,17 @@ module _ (s m : List ℕ) where
       b = boxAfter s m cs
 
       answer : Bool → Arrival
-      answer v = takenOf (b .state) (length (cond v (b .memory) other)) (length f) (timeOf x y) .arrival
+      answer v = takenOf (b .state) (length (cond v (b .memory) other)) (length f) (arrivalTime x y) .arrival
 
       closed : (v : Bool) → b .state ≡ closedState → answer v ≡ Refused Closed
-      closed v d = taken-is (b .state) (length (cond v (b .memory) other)) (length f) (timeOf x y) .0 ∙ rw (closed-ready (b .state) d)
+      closed v d = taken-is (b .state) (length (cond v (b .memory) other)) (length f) (arrivalTime x y) .0 ∙ rw (closed-ready (b .state) d)
 
       go : (v : Bool) → eqb (length other) (length (b .memory)) ≡ v → Since s m cs
           → cond v (writtenBy (answer true) (b .state .size) (b .memory) f) (b .memory) ≡ writtenBy (answer v) (paperAfter s m cs .size) (b .memory) f
       go true e (Since.good g n t) = ap (λ (z : ℕ). writtenBy (answer true) z (b .memory) f) (t .safe .kept .tied .size)
       go true e (Since.bad n d p) = rw (closed true d)
       go false e (Since.good g n t) =
-          let q : answer false ≡ Refused MemoryLength = taken-is (b .state) (length other) (length f) (timeOf x y) .0 ∙ rw (t .safe .ready, t .safe .kept .tied .noted, e) in
+          let q : answer false ≡ Refused MemoryLength = taken-is (b .state) (length other) (length f) (arrivalTime x y) .0 ∙ rw (t .safe .ready, t .safe .kept .tied .noted, e) in
           rw q
       go false e (Since.bad n d p) = rw (closed false d)
 
@@ -170,19 +170,19 @@ module _ (s m : List ℕ) where
   unfolding takenMemory
   lends cs f x y other =
       go (lists.since s m cs)
-      ∙ ap (λ (n : ℕ). writtenBy (takenOf (b .state) n (length f) (timeOf x y) .arrival) (paperAfter s m cs .size) other f) (sym (lent-long b other))
+      ∙ ap (λ (n : ℕ). writtenBy (takenOf (b .state) n (length f) (arrivalTime x y) .arrival) (paperAfter s m cs .size) other f) (sym (lent-long b other))
       ∙ ap (λ (p : Paper). writtenBy (arrives b f x y other .arrival) (p .size) other f) (sym (same-paper s m cs))
     where
       b : Box
       b = boxAfter s m cs
 
       answer : Arrival
-      answer = takenOf (b .state) (length other) (length f) (timeOf x y) .arrival
+      answer = takenOf (b .state) (length other) (length f) (arrivalTime x y) .arrival
 
       go : Since s m cs → writtenBy answer (b .state .size) other f ≡ writtenBy answer (paperAfter s m cs .size) other f
       go (Since.good g n t) = ap (λ (z : ℕ). writtenBy answer z other f) (t .safe .kept .tied .size)
       go (Since.bad n d p) =
-          let q : answer ≡ Refused Closed = taken-is (b .state) (length other) (length f) (timeOf x y) .0 ∙ rw (closed-ready (b .state) d) in
+          let q : answer ≡ Refused Closed = taken-is (b .state) (length other) (length f) (arrivalTime x y) .0 ∙ rw (closed-ready (b .state) d) in
           rw q
 
   pub told-3 : Demand3 s m (ours s m)

@@ -5,17 +5,17 @@ use Prim.Native.Nat.{ℕ}
 use native.Mathlib.Omega.{arith}
 use lib.Dec.{eqb}
 use mathlib.Core.List.{List, [], _∷_, _++_, append-nil, append-assoc}
-use Rattle.ioctl.specs.Refusal.{errnoOf}
-use Rattle.ioctl.specs.Table.{requestOf}
-use Rattle.ioctl.proofs.Numbers.{errno-positive}
-use Rattle.buffers.specs.declared.Time.{Time}
-use Rattle.arrival.specs.Picture.{wholePicture}
-use Rattle.arrival.specs.declared.Arrival.{Arrival}
-use Rattle.arrival.specs.declared.Arrival.the-variants as arrivals
-use Rattle.history.specs.Calls.{leaves}
-use Rattle.history.specs.Paper.{Paper, blank, step, refusedArrival}
-use Rattle.history.specs.Paper.Event.{idle}
-use Rattle.history.proofs.Machine.{noted-tells}
+use Rattle.ioctl_table.specs.Refusal.{errnoOf}
+use Rattle.ioctl_table.specs.Table.{requestOf}
+use Rattle.ioctl_table.proofs.Numbers.{errno-positive}
+use Rattle.stream_words.specs.declared.Time.{Time}
+use Rattle.picture_rules.specs.Picture.{wholePicture}
+use Rattle.stream_arrival.specs.declared.Arrival.{Arrival}
+use Rattle.stream_arrival.specs.declared.Arrival.the-variants as arrivals
+use Rattle.stream_history.specs.Calls.{leaves}
+use Rattle.stream_history.specs.Paper.{Paper, blank, step, refusedArrival}
+use Rattle.stream_history.specs.Paper.Event.{idle}
+use Rattle.stream_history.proofs.Machine.{noted-tells}
 use Rattle.claims.specs.Calls.{Call}
 use Rattle.claims.specs.Calls.Call.{request, arrival}
 use Rattle.claims.specs.Machine.{Session, more, replyIn}

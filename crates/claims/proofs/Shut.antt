@@ -7,25 +7,25 @@ use borrow.Author.Tests.{ltb-false}
 use lib.Dec.{eqb, ltb}
 use mathlib.Core.List.{List}
 use lib.ListN.{length}
-use Rattle.ioctl.specs.declared.refusals.Refusal.{Refusal}
-use Rattle.ioctl.specs.declared.refusals.Refusal.the-variants.{BadSheet, MemoryTooLong}
-use Rattle.fields.specs.Copy.{keptOf}
-use Rattle.fields.proofs.Copies.{kept-code}
-use Rattle.geometry.proofs.Copies.{kept-widths, kept-heights, kept-alignment}
-use Rattle.sheet.specs.Rules.{goodSheet}
-use Rattle.sheet.proofs.Good.{fits-copy}
-use Rattle.negotiation.specs.Negotiation.{openingFormat}
-use Rattle.state.specs.State.{State}
-use Rattle.state.specs.State.{closedState, openingState}
-use Rattle.device.specs.Opening.{Opened}
-use Rattle.device.specs.Opening.{longestMemory, closedBy, openedOf}
-use Rattle.requests.specs.Request.{requestAnswer}
-use Rattle.device.specs.Film.{takenOf}
-use Rattle.history.specs.Paper.{Paper, blank, step, noted}
-use Rattle.history.specs.Paper.Event.{idle}
-use Rattle.history.proofs.Sound.{sound-blank}
-use Rattle.history.proofs.Tied.{tied-opened}
-use Rattle.history.proofs.Machine.{keeps-after}
+use Rattle.ioctl_table.specs.declared.refusals.Refusal.{Refusal}
+use Rattle.ioctl_table.specs.declared.refusals.Refusal.the-variants.{BadSheet, MemoryTooLong}
+use Rattle.sheet_copy.specs.Copy.{keptOf}
+use Rattle.sheet_copy.proofs.Copies.{kept-code}
+use Rattle.sheet_geometry.proofs.Copies.{kept-widths, kept-heights, kept-alignment}
+use Rattle.sheet_rules.specs.Rules.{goodSheet}
+use Rattle.sheet_rules.proofs.Good.{fits-copy}
+use Rattle.negotiation_rules.specs.Negotiation.{openingFormat}
+use Rattle.device_state.specs.State.{State}
+use Rattle.device_state.specs.State.{closedState, openingState}
+use Rattle.device_opening.specs.Opening.{Opened}
+use Rattle.device_opening.specs.Opening.{longestMemory, closedBy, openedOf}
+use Rattle.request_topics.specs.Request.{requestAnswer}
+use Rattle.device_film.specs.Film.{takenOf}
+use Rattle.stream_history.specs.Paper.{Paper, blank, step, noted}
+use Rattle.stream_history.specs.Paper.Event.{idle}
+use Rattle.stream_history.proofs.Sound.{sound-blank}
+use Rattle.stream_history.proofs.Tied.{tied-opened}
+use Rattle.stream_history.proofs.Machine.{keeps-after}
 use Rattle.claims.specs.Calls.Call.{request, arrival}
 use Rattle.claims.specs.Calls.Reply.{answered}
 use Rattle.claims.proofs.Steps.{Safe}

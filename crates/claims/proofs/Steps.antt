@@ -9,60 +9,65 @@ use lib.Signed.{mag}
 use mathlib.Core.List.{List}
 use lib.ListN.{length}
 use lib.Seq.{sets}
-use Rattle.wire.specs.Words.{wordAt}
-use Rattle.wire.proofs.Stores.{sets-all}
-use Rattle.ioctl.specs.Refusal.{errnoOf}
-use Rattle.ioctl.specs.Table.{argumentSize, requestOf}
-use Rattle.ioctl.specs.declared.refusals.Refusal.{Refusal}
-use Rattle.ioctl.specs.declared.refusals.Refusal.the-variants.{Streaming as busy, NoSuchIndex, NoSuchControl, BuffersExist, Closed, UnknownWord, ArgumentLength, WrongType, WrongMemory}
-use Rattle.ioctl.specs.declared.table.Call.{Call as Asked}
-use Rattle.ioctl.specs.declared.table.Call.the-variants.{Unknown, Querycap, EnumFmt, GFmt, SFmt, TryFmt, Reqbufs, Querybuf, Qbuf, Dqbuf, Streamon, Streamoff, GCtrl, SCtrl, Queryctrl, Cropcap, GCrop, SCrop}
-use Rattle.ioctl.proofs.Numbers.{errno-positive}
-use Rattle.geometry.specs.Geometry.{lineAlignment}
-use Rattle.format.specs.declared.Format.{Format}
-use Rattle.format.specs.Size.{bytesPerLine, imageSize}
-use Rattle.format.proofs.Bounds.{image-fits}
-use Rattle.negotiation.specs.Negotiation.{negotiated, askedFormat}
-use Rattle.negotiation.specs.Answer.{pictureWords}
-use Rattle.negotiation.proofs.Reply.{reply-length, reply-word}
-use Rattle.buffers.specs.declared.Time.{Time}
-use Rattle.buffers.specs.declared.Filled.{Filled}
-use Rattle.stream.specs.declared.Reply.{Reply as StreamReply}
-use Rattle.stream.specs.declared.Reply.the-variants as replies
-use Rattle.stream.specs.Calls.{Step}
-use Rattle.buffers.specs.Stream.{Stream}
-use Rattle.stream.specs.Stream.{streaming, stopped}
-use Rattle.stream.specs.Calls.{answers, refuses, grantOf, requestOf as bufferRequest, enqueueOf, dequeueOf, startOf, stopOf}
-use Rattle.stream.specs.Numbers.{replyNumber}
-use Rattle.stream.proofs.Grants.{grant-few}
-use Rattle.status.specs.declared.Queried.{Queried}
-use Rattle.status.specs.declared.Queried.the-variants as queries
-use Rattle.status.specs.Buffer.{queryOf, returnedOf}
-use Rattle.fields.specs.Fields.{formatCount}
-use Rattle.control.specs.Find.{present, queriedPlace}
-use Rattle.control.specs.Values.{reading, settingOf}
-use Rattle.control.specs.declared.Reading.{Reading}
-use Rattle.control.specs.declared.Reading.the-variants as reads
-use Rattle.control.specs.declared.Setting.{Setting}
-use Rattle.control.specs.declared.Setting.the-variants as settings
-use Rattle.replies.specs.Replies.{buffersReply, bufferReply}
-use Rattle.replies.proofs.Words.{buffers-length, buffer-length, buffers-count}
-use Rattle.state.specs.State.{State, withFormat}
-use Rattle.state.specs.Answers.{Answer, answer, done, refused}
-use Rattle.settings.specs.Settings.{querycapOf, enumFmtOf, gFmtOf, toldFormat, sFmtOf, tryFmtOf, cropcapOf, gCropOf, sCropOf}
-use Rattle.controls.specs.Controls.{queryctrlOf, gCtrlOf, sCtrlOf, readAs, setAs}
-use Rattle.streaming.specs.Streaming.{StreamAnswer, streamAnswer, stepped, requestReply, dequeueReply, queriedAs, reqbufsOf, querybufOf, qbufOf, dqbufOf, streamonOf, streamoffOf}
-use Rattle.device.specs.Opening.{longestMemory}
-use Rattle.requests.specs.Request.{byStream, callAnswer, requestAnswer}
-use Rattle.history.specs.Calls.{Call as StreamCall, World, sizeReply}
-use Rattle.history.specs.Calls.Call.{request as asks-for, enqueue as hands-in, dequeue as takes-out, start as starts, stop as stops, resize as resizes}
-use Rattle.history.specs.Calls.Answer.{replied}
-use Rattle.history.specs.Paper.{Paper, Event, refusedReply, grantIn, repliedTold, step}
-use Rattle.history.specs.Paper.Event.{put, whole, damaged, handed, begun, ended, sized, idle}
-use Rattle.history.proofs.Lists.{All}
-use Rattle.history.proofs.Sound.{Fits}
-use Rattle.history.proofs.Tied.{Tied, Answers, Follows, placedAs, firstOf, follows}
-use Rattle.history.proofs.Every.{Kept}
+use Rattle.wire_read.specs.Words.{wordAt}
+use Rattle.wire_read.proofs.Stores.{sets-all}
+use Rattle.ioctl_table.specs.Refusal.{errnoOf}
+use Rattle.ioctl_table.specs.Table.{argumentSize, requestOf}
+use Rattle.ioctl_table.specs.declared.refusals.Refusal.{Refusal}
+use Rattle.ioctl_table.specs.declared.refusals.Refusal.the-variants.{Streaming as busy, NoSuchIndex, NoSuchControl, BuffersExist, Closed, UnknownWord, ArgumentLength, WrongType, WrongMemory}
+use Rattle.ioctl_table.specs.declared.table.Call.{Call as Asked}
+use Rattle.ioctl_table.specs.declared.table.Call.the-variants.{Unknown, Querycap, EnumFmt, GFmt, SFmt, TryFmt, Reqbufs, Querybuf, Qbuf, Dqbuf, Streamon, Streamoff, GCtrl, SCtrl, Queryctrl, Cropcap, GCrop, SCrop}
+use Rattle.ioctl_table.proofs.Numbers.{errno-positive}
+use Rattle.sheet_geometry.specs.Geometry.{lineAlignment}
+use Rattle.format_rules.specs.declared.Format.{Format}
+use Rattle.format_rules.specs.Size.{bytesPerLine, imageSize}
+use Rattle.format_rules.proofs.Bounds.{image-fits}
+use Rattle.negotiation_rules.specs.Negotiation.{negotiated, askedFormat}
+use Rattle.negotiation_rules.specs.Answer.{pictureWords}
+use Rattle.negotiation_rules.proofs.Reply.{reply-length, reply-word}
+use Rattle.stream_words.specs.declared.Time.{Time}
+use Rattle.stream_words.specs.declared.Filled.{Filled}
+use Rattle.stream_run.specs.declared.Reply.{Reply as StreamReply}
+use Rattle.stream_run.specs.declared.Reply.the-variants as replies
+use Rattle.stream_run.specs.Switches.{Step}
+use Rattle.stream_words.specs.Stream.{Stream}
+use Rattle.stream_run.specs.Stream.{streaming, stopped}
+use Rattle.stream_run.specs.Switches.{answers, refuses, grantOf, requestBuffersOf as bufferRequest, startOf, stopOf}
+use Rattle.stream_queue.specs.Queueing.{enqueueOf, dequeueOf}
+use Rattle.stream_run.specs.Numbers.{replyNumber}
+use Rattle.stream_run.proofs.Grants.{grant-few}
+use Rattle.stream_status.specs.declared.Queried.{Queried}
+use Rattle.stream_status.specs.declared.Queried.the-variants as queries
+use Rattle.stream_status.specs.Buffer.{queryOf, returnedOf}
+use Rattle.sheet_contents.specs.Contents.{formatCount}
+use Rattle.control_place_rules.specs.Find.{present, queriedPlace}
+use Rattle.control_value_rules.specs.Values.{reading, settingOf}
+use Rattle.control_value_rules.specs.declared.Reading.{Reading}
+use Rattle.control_value_rules.specs.declared.Reading.the-variants as reads
+use Rattle.control_value_rules.specs.declared.Setting.{Setting}
+use Rattle.control_value_rules.specs.declared.Setting.the-variants as settings
+use Rattle.buffer_replies.specs.Replies.{buffersReply, bufferReply}
+use Rattle.buffer_replies.proofs.Lengths.{buffers-length, buffer-length, buffers-count}
+use Rattle.device_state.specs.State.{State, withFormat}
+use Rattle.device_state.specs.Answers.{Answer, answer, done, refused}
+use Rattle.format_calls.specs.Formats.{querycapOf, enumFmtOf, gFmtOf}
+use Rattle.negotiation_calls.specs.Negotiations.{toldFormat, sFmtOf, tryFmtOf}
+use Rattle.crop_calls.specs.Crops.{cropcapOf, gCropOf, sCropOf}
+use Rattle.control_calls.specs.Controls.{queryctrlOf, gCtrlOf, sCtrlOf, readAs, setAs}
+use Rattle.buffer_calls.specs.Buffers.{StreamAnswer, streamAnswer, stepped, requestReply, queriedAs, reqbufsOf, querybufOf}
+use Rattle.queue_calls.specs.Queues.{dequeueReply, qbufOf, dqbufOf}
+use Rattle.run_calls.specs.Runs.{streamonOf, streamoffOf}
+use Rattle.device_opening.specs.Opening.{longestMemory}
+use Rattle.request_topics.specs.Request.{byStream, callAnswer, requestAnswer}
+use Rattle.stream_history.specs.Calls.{Call as StreamCall, World, sizeReply}
+use Rattle.stream_history.specs.Calls.Call.{request as asks-for, enqueue as hands-in, dequeue as takes-out, start as starts, stop as stops, resize as resizes}
+use Rattle.stream_history.specs.Calls.Answer.{replied}
+use Rattle.stream_history.specs.Paper.{Paper, Event, refusedReply, grantIn, repliedTold, step}
+use Rattle.stream_history.specs.Paper.Event.{put, whole, damaged, handed, begun, ended, sized, idle}
+use Rattle.stream_history.proofs.Lists.{All}
+use Rattle.stream_history.proofs.Sound.{Fits}
+use Rattle.stream_history.proofs.Tied.{Tied, Answers, Follows, placedAs, firstOf, follows}
+use Rattle.stream_history.proofs.Every.{Kept}
 use Rattle.claims.specs.Calls.Reply.{answered, taken}
 use Rattle.claims.specs.Calls.{Reply}
 use Rattle.claims.proofs.Boxes.{Box}

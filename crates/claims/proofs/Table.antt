@@ -6,29 +6,31 @@ use lib.Dec.{eqb, leb}
 use lib.Signed.{ltZ}
 use mathlib.Core.List.{List}
 use lib.ListN.{length}
-use Rattle.wire.specs.Words.{wordAt}
-use Rattle.wire.specs.Signed.{signed, bits}
-use Rattle.grid.specs.Grid.{nearestValue}
-use Rattle.ioctl.specs.Refusal.{errnoOf}
-use Rattle.ioctl.specs.Table.{requestOf}
-use Rattle.ioctl.specs.declared.refusals.Refusal.{Refusal}
-use Rattle.ioctl.specs.declared.refusals.Refusal.the-variants.{ArgumentLength, Closed, UnknownWord, WrongType, NoSuchIndex, NoSuchControl, ControlDisabled, ControlReadOnly, ControlIsButton, BuffersExist, ControlGrabbed, OutOfRange}
-use Rattle.ioctl.specs.declared.table.Call.{Call}
-use Rattle.ioctl.specs.declared.table.Call.the-variants.{Unknown, Querycap, EnumFmt, GFmt, SFmt, TryFmt, Reqbufs, Querybuf, Qbuf, Dqbuf, Streamon, Streamoff, GCtrl, SCtrl, Queryctrl, Cropcap, GCrop, SCrop}
-use Rattle.fields.specs.declared.Control.{Control}
-use Rattle.fields.specs.Fields.{formatCount}
-use Rattle.control.specs.Find.{present, placeOf, queriedPlace}
-use Rattle.control.specs.Values.{readingAt, reading, rangedAt, settingAt, settingOf}
-use Rattle.control.specs.declared.Reading.{Reading}
-use Rattle.control.specs.declared.Reading.the-variants as reads
-use Rattle.control.specs.declared.Setting.{Setting}
-use Rattle.control.specs.declared.Setting.the-variants as settings
-use Rattle.state.specs.State.{State}
-use Rattle.state.specs.Answers.{Answer, refused}
-use Rattle.settings.specs.Settings.{querycapOf, enumFmtOf, gFmtOf, sFmtOf, tryFmtOf, cropcapOf, gCropOf, sCropOf}
-use Rattle.controls.specs.Controls.{queryctrlOf, gCtrlOf, sCtrlOf, readAs, setAs}
-use Rattle.streaming.proofs.Numbers.{reqbufs-number, querybuf-number, qbuf-number, dqbuf-number, streamon-number, streamoff-number}
-use Rattle.requests.specs.Request.{callAnswer, requestAnswer}
+use Rattle.wire_read.specs.Words.{wordAt}
+use Rattle.wire_signed.specs.Signed.{signed, bits}
+use Rattle.grid_rules.specs.Grid.{nearestValue}
+use Rattle.ioctl_table.specs.Refusal.{errnoOf}
+use Rattle.ioctl_table.specs.Table.{requestOf}
+use Rattle.ioctl_table.specs.declared.refusals.Refusal.{Refusal}
+use Rattle.ioctl_table.specs.declared.refusals.Refusal.the-variants.{ArgumentLength, Closed, UnknownWord, WrongType, NoSuchIndex, NoSuchControl, ControlDisabled, ControlReadOnly, ControlIsButton, BuffersExist, ControlGrabbed, OutOfRange}
+use Rattle.ioctl_table.specs.declared.table.Call.{Call}
+use Rattle.ioctl_table.specs.declared.table.Call.the-variants.{Unknown, Querycap, EnumFmt, GFmt, SFmt, TryFmt, Reqbufs, Querybuf, Qbuf, Dqbuf, Streamon, Streamoff, GCtrl, SCtrl, Queryctrl, Cropcap, GCrop, SCrop}
+use Rattle.sheet_records.specs.declared.Control.{Control}
+use Rattle.sheet_contents.specs.Contents.{formatCount}
+use Rattle.control_place_rules.specs.Find.{present, placeOf, queriedPlace}
+use Rattle.control_value_rules.specs.Values.{readingAt, reading, rangedAt, settingAt, settingOf}
+use Rattle.control_value_rules.specs.declared.Reading.{Reading}
+use Rattle.control_value_rules.specs.declared.Reading.the-variants as reads
+use Rattle.control_value_rules.specs.declared.Setting.{Setting}
+use Rattle.control_value_rules.specs.declared.Setting.the-variants as settings
+use Rattle.device_state.specs.State.{State}
+use Rattle.device_state.specs.Answers.{Answer, refused}
+use Rattle.format_calls.specs.Formats.{querycapOf, enumFmtOf, gFmtOf}
+use Rattle.negotiation_calls.specs.Negotiations.{sFmtOf, tryFmtOf}
+use Rattle.crop_calls.specs.Crops.{cropcapOf, gCropOf, sCropOf}
+use Rattle.control_calls.specs.Controls.{queryctrlOf, gCtrlOf, sCtrlOf, readAs, setAs}
+use Rattle.run_calls.proofs.Numbers.{reqbufs-number, querybuf-number, qbuf-number, dqbuf-number, streamon-number, streamoff-number}
+use Rattle.request_topics.specs.Request.{callAnswer, requestAnswer}
 use Rattle.claims.specs.Table.{firstNumber, named, outOfRange}
 use Rattle.claims.proofs.Checks.{checks, requestChecks}
 

@@ -8,37 +8,37 @@ use borrow.Author.Tests.{eqb-true}
 use lib.Dec.{eqb}
 use mathlib.Core.List.{List, [], _∷_, map}
 use lib.ListN.{length, length-map}
-use Rattle.wire.specs.Words.{wordAt}
-use Rattle.ioctl.specs.Refusal.{errnoOf}
-use Rattle.ioctl.specs.Table.{requestOf, argumentSize}
-use Rattle.ioctl.specs.declared.refusals.Refusal.the-variants.{WrongType, WrongMemory, Streaming}
-use Rattle.ioctl.specs.declared.table.Call.{Call as Asked}
-use Rattle.ioctl.specs.declared.table.Call.the-variants.{Unknown, Querycap, EnumFmt, GFmt, SFmt, TryFmt, Reqbufs, Querybuf, Qbuf, Dqbuf, Streamon, Streamoff, GCtrl, SCtrl, Queryctrl, Cropcap, GCrop, SCrop}
-use Rattle.fields.specs.Copy.{keptOf}
-use Rattle.fields.proofs.Copies.{kept-format-count, kept-control-count, kept-id, kept-control}
-use Rattle.sheet.specs.Rules.{goodSheet}
-use Rattle.sheet.proofs.Good.{fits-copy}
-use Rattle.control.specs.Find.{present, placeOf, placeAbove, queriedPlace}
-use Rattle.buffers.specs.declared.Time.{Time}
-use Rattle.buffers.specs.Lists.{any}
-use Rattle.buffers.specs.Moves.{isIncoming, isOutgoing, ofBuffer}
-use Rattle.stream.specs.Stream.{streaming, stopped}
-use Rattle.stream.specs.Calls.{Step, grantOf, refuses, answers, requestOf as bufferRequest}
-use Rattle.stream.specs.declared.Reply.the-variants as replies
-use Rattle.stream.proofs.Grants.{grant-few}
-use Rattle.arrival.specs.declared.Arrival.{Arrival}
-use Rattle.arrival.specs.Arrivals.{writtenBy}
-use Rattle.replies.specs.Replies.{buffersReply}
-use Rattle.replies.proofs.Words.{buffers-length, buffers-count}
-use Rattle.state.specs.State.{State, closedState}
-use Rattle.state.specs.Answers.{Answer, refused}
-use Rattle.streaming.specs.Streaming.{streamAnswer, stepped, requestReply, reqbufsOf}
-use Rattle.requests.specs.Request.{byStream, streamCall, callAnswer}
-use Rattle.device.specs.Opening.{openedOf}
-use Rattle.device.specs.Film.{takenOf, takenMemory}
-use Rattle.history.specs.Paper.{Pair, Paper, indexOf}
-use Rattle.history.proofs.Tied.{entry}
-use Rattle.claims.specs.Calls.{Call, timeOf}
+use Rattle.wire_read.specs.Words.{wordAt}
+use Rattle.ioctl_table.specs.Refusal.{errnoOf}
+use Rattle.ioctl_table.specs.Table.{requestOf, argumentSize}
+use Rattle.ioctl_table.specs.declared.refusals.Refusal.the-variants.{WrongType, WrongMemory, Streaming}
+use Rattle.ioctl_table.specs.declared.table.Call.{Call as Asked}
+use Rattle.ioctl_table.specs.declared.table.Call.the-variants.{Unknown, Querycap, EnumFmt, GFmt, SFmt, TryFmt, Reqbufs, Querybuf, Qbuf, Dqbuf, Streamon, Streamoff, GCtrl, SCtrl, Queryctrl, Cropcap, GCrop, SCrop}
+use Rattle.sheet_copy.specs.Copy.{keptOf}
+use Rattle.sheet_copy.proofs.Copies.{kept-format-count, kept-control-count, kept-id, kept-control}
+use Rattle.sheet_rules.specs.Rules.{goodSheet}
+use Rattle.sheet_rules.proofs.Good.{fits-copy}
+use Rattle.control_place_rules.specs.Find.{present, placeOf, placeAbove, queriedPlace}
+use Rattle.stream_words.specs.declared.Time.{Time}
+use Rattle.stream_words.specs.Lists.{any}
+use Rattle.stream_words.specs.Moves.{isIncoming, isOutgoing, ofBuffer}
+use Rattle.stream_run.specs.Stream.{streaming, stopped}
+use Rattle.stream_run.specs.Switches.{Step, grantOf, refuses, answers, requestBuffersOf as bufferRequest}
+use Rattle.stream_run.specs.declared.Reply.the-variants as replies
+use Rattle.stream_run.proofs.Grants.{grant-few}
+use Rattle.stream_arrival.specs.declared.Arrival.{Arrival}
+use Rattle.stream_arrival.specs.Arrivals.{writtenBy}
+use Rattle.buffer_replies.specs.Replies.{buffersReply}
+use Rattle.buffer_replies.proofs.Lengths.{buffers-length, buffers-count}
+use Rattle.device_state.specs.State.{State, closedState}
+use Rattle.device_state.specs.Answers.{Answer, refused}
+use Rattle.buffer_calls.specs.Buffers.{streamAnswer, stepped, requestReply, reqbufsOf}
+use Rattle.request_topics.specs.Request.{byStream, streamCall, callAnswer}
+use Rattle.device_opening.specs.Opening.{openedOf}
+use Rattle.device_film.specs.Film.{takenOf, takenMemory}
+use Rattle.stream_history.specs.Paper.{Pair, Paper, indexOf}
+use Rattle.stream_history.proofs.Tied.{entry}
+use Rattle.claims.specs.Calls.{Call, arrivalTime}
 use Rattle.claims.specs.Calls.Call.{request, arrival}
 use Rattle.claims.specs.Machine.{NoTrace}
 use Rattle.claims.specs.Words.{paperIn}
@@ -186,18 +186,18 @@ module _ (s m : List ℕ) where
 
   arrivals-told : (cs : List Call) (f : List ℕ) (x y : ℕ) (other : List ℕ)
       → ours s m .arrival cs f x y other
-      ≡ refusedBy (arrivalTests (ours s m .opening) (length m) (paperIn s (ours s m) cs) (length other)) (arrivedOn (paperIn s (ours s m) cs) (length f) (timeOf x y))
+      ≡ refusedBy (arrivalTests (ours s m .opening) (length m) (paperIn s (ours s m) cs) (length other)) (arrivedOn (paperIn s (ours s m) cs) (length f) (arrivalTime x y))
   arrivals-told cs f x y other =
-      ap (λ (n : ℕ). takenOf (boxAfter s m cs .state) n (length f) (timeOf x y) .arrival) (lent-long (boxAfter s m cs) other)
-      ∙ taken-is (boxAfter s m cs .state) (length other) (length f) (timeOf x y) .0
+      ap (λ (n : ℕ). takenOf (boxAfter s m cs .state) n (length f) (arrivalTime x y) .arrival) (lent-long (boxAfter s m cs) other)
+      ∙ taken-is (boxAfter s m cs .state) (length other) (length f) (arrivalTime x y) .0
       ∙ go (since s m cs)
-      ∙ ap (λ (p : Paper). refusedBy (arrivalTests (openedOf s (length m) .number) (length m) p (length other)) (arrivedOn p (length f) (timeOf x y))) (sym (same-paper s m cs))
+      ∙ ap (λ (p : Paper). refusedBy (arrivalTests (openedOf s (length m) .number) (length m) p (length other)) (arrivedOn p (length f) (arrivalTime x y))) (sym (same-paper s m cs))
     where
-      go : Since s m cs → refusedBy (arrivalChecks (boxAfter s m cs .state) (length other)) (arrivedBy (boxAfter s m cs .state) (length f) (timeOf x y))
-          ≡ refusedBy (arrivalTests (openedOf s (length m) .number) (length m) (paperAfter s m cs) (length other)) (arrivedOn (paperAfter s m cs) (length f) (timeOf x y))
+      go : Since s m cs → refusedBy (arrivalChecks (boxAfter s m cs .state) (length other)) (arrivedBy (boxAfter s m cs .state) (length f) (arrivalTime x y))
+          ≡ refusedBy (arrivalTests (openedOf s (length m) .number) (length m) (paperAfter s m cs) (length other)) (arrivedOn (paperAfter s m cs) (length f) (arrivalTime x y))
       go (Since.good g n t) =
           let long : boxAfter s m cs .state .stream .length ≡ length m = t .safe .kept .tied .noted ∙ t .long in
-          rw (answers-same (boxAfter s m cs) (paperAfter s m cs) (t .safe) (length f) (timeOf x y), t .safe .ready, n, long, t .safe .kept .tied .running, t .safe .kept .tied .run)
+          rw (answers-same (boxAfter s m cs) (paperAfter s m cs) (t .safe) (length f) (arrivalTime x y), t .safe .ready, n, long, t .safe .kept .tied .running, t .safe .kept .tied .run)
       go (Since.bad n d p) = rw (n, closed-ready (boxAfter s m cs .state) d)
 
   -- a refusal leaves the box as it was
@@ -216,16 +216,16 @@ module _ (s m : List ℕ) where
       b = boxAfter s m cs
 
       answer : Bool → Arrival
-      answer v = takenOf (b .state) (length (cond v (b .memory) other)) (length f) (timeOf x y) .arrival
+      answer v = takenOf (b .state) (length (cond v (b .memory) other)) (length f) (arrivalTime x y) .arrival
 
       go : (v : Bool) → arrivalNumber (answer v) ≢ 0
           → record {
             sheet = b .sheet;
-            state = takenOf (b .state) (length (cond v (b .memory) other)) (length f) (timeOf x y) .state;
+            state = takenOf (b .state) (length (cond v (b .memory) other)) (length f) (arrivalTime x y) .state;
             memory = cond v (writtenBy (answer true) (b .state .size) (b .memory) f) (b .memory);
           } ≡ b
-      go true h = rw (taken-is (b .state) (length (b .memory)) (length f) (timeOf x y) .1 h, written-refused (answer true) (b .state .size) (b .memory) f h)
-      go false h = rw (taken-is (b .state) (length other) (length f) (timeOf x y) .1 h)
+      go true h = rw (taken-is (b .state) (length (b .memory)) (length f) (arrivalTime x y) .1 h, written-refused (answer true) (b .state .size) (b .memory) f h)
+      go false h = rw (taken-is (b .state) (length other) (length f) (arrivalTime x y) .1 h)
 
   grants-told : (cs : List Call) (w : ℕ) (a : List ℕ) → requestOf w .call ≡ Reqbufs → ours s m .request cs w a .number ≡ 0
       → wordAt (ours s m .request cs w a .argument) 0 ≡ grantOf (length m) (wordAt a 0) (paperIn s (ours s m) cs .size)

@@ -4,15 +4,15 @@ use Prim.Native.Nat.{ℕ, _+_, _*_, _≤_}
 use native.Mathlib.Omega.{arith}
 use mathlib.Core.List.{List}
 use lib.ListN.{length}
-use Rattle.buffers.specs.Lists.{any}
-use Rattle.buffers.specs.Moves.{emptied, isIncoming, isOutgoing, standingOf}
-use Rattle.stream.specs.Stream.{freshStream}
-use Rattle.status.specs.Buffer.{flagsFor}
-use Rattle.state.specs.State.{State}
-use Rattle.state.specs.State.{closedState}
-use Rattle.history.specs.Paper.{Paper, blank}
-use Rattle.history.specs.Claims.{timesIn, timesOut}
-use Rattle.history.proofs.Places.{placed}
+use Rattle.stream_words.specs.Lists.{any}
+use Rattle.stream_words.specs.Moves.{emptied, isIncoming, isOutgoing, standingOf}
+use Rattle.stream_run.specs.Stream.{freshStream}
+use Rattle.stream_status.specs.Buffer.{flagsFor}
+use Rattle.device_state.specs.State.{State}
+use Rattle.device_state.specs.State.{closedState}
+use Rattle.stream_history.specs.Paper.{Paper, blank}
+use Rattle.stream_history.specs.Claims.{timesIn, timesOut}
+use Rattle.stream_history.proofs.Places.{placed}
 use Rattle.claims.proofs.Steps.{view, Safe}
 use Rattle.claims.proofs.Shut.{Begun, begins}
 use Rattle.claims.proofs.Demand.{safe-after, closed-at}

@@ -10,34 +10,34 @@ use lib.Dec.{eqb}
 use mathlib.Core.List.{List}
 use lib.ListN.{length}
 use lib.Seq.{sets}
-use Rattle.wire.specs.Words.{wordAt}
-use Rattle.wire.proofs.Stores.{sets-all}
-use Rattle.ioctl.specs.Table.{argumentSize, requestOf}
-use Rattle.ioctl.specs.declared.table.Call.{Call as Asked}
-use Rattle.ioctl.specs.declared.table.Call.the-variants.{SFmt, TryFmt}
-use Rattle.ioctl.specs.declared.refusals.Refusal.the-variants.{ArgumentLength, Closed, UnknownWord, WrongType, BuffersExist}
-use Rattle.fields.specs.Copy.{keptOf}
-use Rattle.fields.specs.Fields.{formatCode}
-use Rattle.fields.proofs.Copies.{kept-format-count, kept-code}
-use Rattle.geometry.specs.Geometry.{widthsOf, heightsOf}
-use Rattle.geometry.specs.declared.Range.{Range}
-use Rattle.geometry.proofs.Copies.{kept-widths, kept-heights, kept-alignment}
-use Rattle.sheet.specs.Rules.{knownCode, goodSheet}
-use Rattle.sheet.specs.Folds.{anyBelow}
-use Rattle.sheet.proofs.Truth.{any-at}
-use Rattle.sheet.proofs.Facts.{Sizes}
-use Rattle.sheet.proofs.Good.{geometry, format}
-use Rattle.grid.specs.Grid.{nearestSize, sizeAt}
-use Rattle.grid.proofs.Sizes.{size-to, size-on-grid, size-nearest, size-tie}
-use Rattle.format.specs.declared.Format.{Format}
-use Rattle.negotiation.specs.Negotiation.{offered, offersAmong, chosenCode, negotiated, askedFormat}
-use Rattle.negotiation.specs.Answer.{pictureWords}
-use Rattle.negotiation.proofs.Good.{offered-all, width-within, height-within, chosen-offered, code-kept}
-use Rattle.negotiation.proofs.Reply.{reply-length, reply-word}
-use Rattle.state.specs.State.{State, withFormat}
-use Rattle.state.specs.Answers.{Answer, done, refused}
-use Rattle.settings.specs.Settings.{toldFormat, sFmtOf, tryFmtOf}
-use Rattle.requests.specs.Request.{callAnswer, requestAnswer}
+use Rattle.wire_read.specs.Words.{wordAt}
+use Rattle.wire_read.proofs.Stores.{sets-all}
+use Rattle.ioctl_table.specs.Table.{argumentSize, requestOf}
+use Rattle.ioctl_table.specs.declared.table.Call.{Call as Asked}
+use Rattle.ioctl_table.specs.declared.table.Call.the-variants.{SFmt, TryFmt}
+use Rattle.ioctl_table.specs.declared.refusals.Refusal.the-variants.{ArgumentLength, Closed, UnknownWord, WrongType, BuffersExist}
+use Rattle.sheet_copy.specs.Copy.{keptOf}
+use Rattle.sheet_records.specs.Records.{formatCode}
+use Rattle.sheet_copy.proofs.Copies.{kept-format-count, kept-code}
+use Rattle.sheet_geometry.specs.Geometry.{widthsOf, heightsOf}
+use Rattle.sheet_geometry.specs.declared.Range.{Range}
+use Rattle.sheet_geometry.proofs.Copies.{kept-widths, kept-heights, kept-alignment}
+use Rattle.sheet_rules.specs.Rules.{knownCode, goodSheet}
+use Rattle.sheet_rules.specs.Folds.{anyBelow}
+use Rattle.sheet_rules.proofs.Truth.{any-at}
+use Rattle.sheet_rules.proofs.Facts.{Sizes}
+use Rattle.sheet_rules.proofs.Good.{geometry, format}
+use Rattle.grid_rules.specs.Grid.{nearestSize, sizeAt}
+use Rattle.grid_rules.proofs.Sizes.{size-to, size-on-grid, size-nearest, size-tie}
+use Rattle.format_rules.specs.declared.Format.{Format}
+use Rattle.negotiation_rules.specs.Negotiation.{offered, offersAmong, chosenCode, negotiated, askedFormat}
+use Rattle.negotiation_rules.specs.Answer.{pictureWords}
+use Rattle.negotiation_rules.proofs.Good.{offered-all, width-within, height-within, chosen-offered, code-kept}
+use Rattle.negotiation_rules.proofs.Reply.{reply-length, reply-word}
+use Rattle.device_state.specs.State.{State, withFormat}
+use Rattle.device_state.specs.Answers.{Answer, done, refused}
+use Rattle.negotiation_calls.specs.Negotiations.{toldFormat, sFmtOf, tryFmtOf}
+use Rattle.request_topics.specs.Request.{callAnswer, requestAnswer}
 use Rattle.claims.specs.Calls.{Call}
 use Rattle.claims.specs.Calls.Call.{request}
 use Rattle.claims.specs.Machine.{Given, more}

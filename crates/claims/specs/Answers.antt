@@ -4,25 +4,28 @@ use mathlib.Core.Bool.{cond, not}
 use mathlib.Core.List.{List, [], _∷_, map}
 use lib.Dec.{eqb}
 use lib.ListN.{length, getD}
-use Rattle.wire.specs.Words.{wordAt}
-use Rattle.ioctl.specs.declared.refusals.Refusal.the-variants.{Closed}
-use Rattle.ioctl.specs.declared.table.Call.{Call as Asked}
-use Rattle.ioctl.specs.declared.table.Call.the-variants.{Unknown, Querycap, EnumFmt, GFmt, SFmt, TryFmt, Reqbufs, Querybuf, Qbuf, Dqbuf, Streamon, Streamoff, GCtrl, SCtrl, Queryctrl, Cropcap, GCrop, SCrop}
-use Rattle.geometry.specs.Geometry.{lineAlignment}
-use Rattle.planes.specs.declared.Place.{Place}
-use Rattle.planes.specs.Planes.{noPlace, placeOf as planeOf}
-use Rattle.negotiation.specs.Negotiation.{negotiated, askedFormat}
-use Rattle.control.specs.Find.{placeOf, queriedPlace}
-use Rattle.buffers.specs.declared.Filled.{Filled}
-use Rattle.buffers.specs.Stream.{Queues}
-use Rattle.buffers.specs.Moves.{noFrame, standingOf}
-use Rattle.stream.specs.Calls.{grantOf}
-use Rattle.status.specs.declared.Status.{Status}
-use Rattle.status.specs.Buffer.{flagsFor, frameFor, describedOf, returnedOf}
-use Rattle.replies.specs.Replies.{capabilityReply, descriptionReply, buffersReply, bufferReply, controlReply, valueReply, cropReply, cropCapabilityReply}
-use Rattle.settings.specs.Settings.{toldFormat}
-use Rattle.history.specs.Paper.{Pair, Paper, step}
-use Rattle.history.specs.Paper.Event.{put}
+use Rattle.wire_read.specs.Words.{wordAt}
+use Rattle.ioctl_table.specs.declared.refusals.Refusal.the-variants.{Closed}
+use Rattle.ioctl_table.specs.declared.table.Call.{Call as Asked}
+use Rattle.ioctl_table.specs.declared.table.Call.the-variants.{Unknown, Querycap, EnumFmt, GFmt, SFmt, TryFmt, Reqbufs, Querybuf, Qbuf, Dqbuf, Streamon, Streamoff, GCtrl, SCtrl, Queryctrl, Cropcap, GCrop, SCrop}
+use Rattle.sheet_geometry.specs.Geometry.{lineAlignment}
+use Rattle.plane_rules.specs.declared.Place.{Place}
+use Rattle.plane_rules.specs.Planes.{noPlace, planeOf}
+use Rattle.negotiation_rules.specs.Negotiation.{negotiated, askedFormat}
+use Rattle.control_place_rules.specs.Find.{placeOf, queriedPlace}
+use Rattle.stream_words.specs.declared.Filled.{Filled}
+use Rattle.stream_words.specs.Stream.{Queues}
+use Rattle.stream_words.specs.Moves.{noFrame, standingOf}
+use Rattle.stream_run.specs.Switches.{grantOf}
+use Rattle.stream_status.specs.declared.Status.{Status}
+use Rattle.stream_status.specs.Buffer.{flagsFor, frameFor, describedOf, returnedOf}
+use Rattle.format_replies.specs.Replies.{capabilityReply, descriptionReply}
+use Rattle.buffer_replies.specs.Replies.{buffersReply, bufferReply}
+use Rattle.control_replies.specs.Replies.{controlReply, valueReply}
+use Rattle.crop_replies.specs.Replies.{cropReply, cropCapabilityReply}
+use Rattle.negotiation_calls.specs.Negotiations.{toldFormat}
+use Rattle.stream_history.specs.Paper.{Pair, Paper, step}
+use Rattle.stream_history.specs.Paper.Event.{put}
 use Rattle.claims.specs.Table.{named}
 use Rattle.claims.specs.Desk.{Desk, valueOn}
 

@@ -1,9 +1,9 @@
 -- Calls on a device, and what is given back.
 use Prim.Native.Nat.{ℕ, _%_, _^_}
 use mathlib.Core.List.{List}
-use Rattle.wire.specs.Signed.{signed}
-use Rattle.buffers.specs.declared.Time.{Time}
-use Rattle.arrival.specs.declared.Arrival.{Arrival}
+use Rattle.wire_signed.specs.Signed.{signed}
+use Rattle.stream_words.specs.declared.Time.{Time}
+use Rattle.stream_arrival.specs.declared.Arrival.{Arrival}
 
 -- A call: a request, any word and any argument; or an arrival, any bytes, the 32 bits of its seconds and of its microseconds, and
 -- what is lent if not the picture memory.
@@ -17,5 +17,5 @@ pub data Reply : Type 0 where
   taken : Arrival → Reply
 
 -- a time of two numbers of 32 bits with a sign
-abbrev pub timeOf : ℕ → ℕ → Time
-timeOf x y = record { seconds = signed (x % 2 ^ 32); microseconds = signed (y % 2 ^ 32) }
+abbrev pub arrivalTime : ℕ → ℕ → Time
+arrivalTime x y = record { seconds = signed (x % 2 ^ 32); microseconds = signed (y % 2 ^ 32) }

@@ -4,20 +4,20 @@ use mathlib.Core.Bool.{cond}
 use mathlib.Core.List.{List, [], _∷_}
 use lib.Dec.{eqb}
 use lib.ListN.{set}
-use Rattle.wire.specs.Words.{wordAt}
-use Rattle.wire.specs.Signed.{signed, bits}
-use Rattle.ioctl.specs.Table.{requestOf}
-use Rattle.ioctl.specs.declared.table.Call.{Call as Asked}
-use Rattle.ioctl.specs.declared.table.Call.the-variants.{Unknown, Querycap, EnumFmt, GFmt, SFmt, TryFmt, Reqbufs, Querybuf, Qbuf, Dqbuf, Streamon, Streamoff, GCtrl, SCtrl, Queryctrl, Cropcap, GCrop, SCrop}
-use Rattle.geometry.specs.Geometry.{cropBounds, cropDefault}
-use Rattle.geometry.specs.declared.Rect.{Rect}
-use Rattle.format.specs.declared.Format.{Format}
-use Rattle.grid.specs.Grid.{nearestValue}
-use Rattle.negotiation.specs.Negotiation.{openingFormat, negotiated, askedFormat}
-use Rattle.crop.specs.Crop.{clamped}
-use Rattle.control.specs.Find.{placeOf}
-use Rattle.control.specs.Values.{openingValues}
-use Rattle.settings.specs.Settings.{askedCrop}
+use Rattle.wire_read.specs.Words.{wordAt}
+use Rattle.wire_signed.specs.Signed.{signed, bits}
+use Rattle.ioctl_table.specs.Table.{requestOf}
+use Rattle.ioctl_table.specs.declared.table.Call.{Call as Asked}
+use Rattle.ioctl_table.specs.declared.table.Call.the-variants.{Unknown, Querycap, EnumFmt, GFmt, SFmt, TryFmt, Reqbufs, Querybuf, Qbuf, Dqbuf, Streamon, Streamoff, GCtrl, SCtrl, Queryctrl, Cropcap, GCrop, SCrop}
+use Rattle.sheet_geometry.specs.Geometry.{cropBounds, cropDefault}
+use Rattle.sheet_geometry.specs.declared.Rect.{Rect}
+use Rattle.format_rules.specs.declared.Format.{Format}
+use Rattle.grid_rules.specs.Grid.{nearestValue}
+use Rattle.negotiation_rules.specs.Negotiation.{openingFormat, negotiated, askedFormat}
+use Rattle.crop_rules.specs.Crop.{clamped}
+use Rattle.control_place_rules.specs.Find.{placeOf}
+use Rattle.control_value_rules.specs.Values.{openingValues}
+use Rattle.crop_calls.specs.Crops.{askedCrop}
 use Rattle.claims.specs.Calls.{Call, Reply}
 use Rattle.claims.specs.Calls.Call.{request, arrival}
 use Rattle.claims.specs.Calls.Reply.{answered, taken}

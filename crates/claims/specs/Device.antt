@@ -4,14 +4,14 @@ use mathlib.Core.Bool.{cond}
 use mathlib.Core.List.{List, [], _∷_}
 use lib.Dec.{eqb}
 use lib.ListN.{length}
-use Rattle.buffers.specs.Stream.{Run}
-use Rattle.planes.specs.declared.Place.{Place}
-use Rattle.arrival.specs.declared.Arrival.{Arrival}
-use Rattle.status.specs.declared.Verdict.{Verdict}
-use Rattle.device.specs.Opening.{Whole, openedOf}
-use Rattle.requests.specs.Request.{requestAnswer}
-use Rattle.device.specs.Film.{takenOf, takenMemory, deviceVerdict, devicePlace}
-use Rattle.claims.specs.Calls.{Call, timeOf}
+use Rattle.stream_words.specs.Stream.{Run}
+use Rattle.plane_rules.specs.declared.Place.{Place}
+use Rattle.stream_arrival.specs.declared.Arrival.{Arrival}
+use Rattle.stream_verdict.specs.declared.Verdict.{Verdict}
+use Rattle.device_opening.specs.Opening.{Whole, openedOf}
+use Rattle.request_topics.specs.Request.{requestAnswer}
+use Rattle.device_film.specs.Film.{takenOf, takenMemory, deviceVerdict, devicePlace}
+use Rattle.claims.specs.Calls.{Call, arrivalTime}
 use Rattle.claims.specs.Calls.Call.{request, arrival}
 use Rattle.claims.specs.Machine.{Given, Machine}
 
@@ -75,7 +75,7 @@ module _ (D : Device) where
         plane = λ cs n k. D .plane (after cs .device) n k;
       }
 
--- our device, by the definitions that the contracts of `device` cite
+-- our device, by the definitions that the contracts of the device cite
 abbrev pub ourDevice : Device
 ourDevice = record {
   State = Whole;
@@ -85,9 +85,9 @@ ourDevice = record {
     device = record { sheet = d .sheet; state = requestAnswer (d .sheet) (d .state) w a .state };
   };
   arrive = λ d m f x y. record {
-    arrival = takenOf (d .state) (length m) (length f) (timeOf x y) .arrival;
-    device = record { sheet = d .sheet; state = takenOf (d .state) (length m) (length f) (timeOf x y) .state };
-    memory = takenMemory (d .state) m f (timeOf x y);
+    arrival = takenOf (d .state) (length m) (length f) (arrivalTime x y) .arrival;
+    device = record { sheet = d .sheet; state = takenOf (d .state) (length m) (length f) (arrivalTime x y) .state };
+    memory = takenMemory (d .state) m f (arrivalTime x y);
   };
   verdict = λ d. deviceVerdict (d .state);
   counts = λ d. d .state .stream .run;

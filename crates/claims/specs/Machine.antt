@@ -3,10 +3,10 @@
 use Prim.Native.Nat.{ℕ}
 use mathlib.Core.Path.{_≡_}
 use mathlib.Core.List.{List, [], _∷_, _++_}
-use Rattle.buffers.specs.Stream.{Run}
-use Rattle.planes.specs.declared.Place.{Place}
-use Rattle.arrival.specs.declared.Arrival.{Arrival}
-use Rattle.status.specs.declared.Verdict.{Verdict}
+use Rattle.stream_words.specs.Stream.{Run}
+use Rattle.plane_rules.specs.declared.Place.{Place}
+use Rattle.stream_arrival.specs.declared.Arrival.{Arrival}
+use Rattle.stream_verdict.specs.declared.Verdict.{Verdict}
 use Rattle.claims.specs.Calls.{Call, Reply}
 use Rattle.claims.specs.Calls.Call.{request, arrival}
 use Rattle.claims.specs.Calls.Reply.{answered, taken}

@@ -5,23 +5,24 @@ use mathlib.Core.Logic.{_≢_}
 use mathlib.Core.Bool.{true, false}
 use mathlib.Core.List.{List, [], _∷_, _++_}
 use lib.ListN.{length, take, drop}
-use Rattle.wire.specs.Words.{wordAt}
-use Rattle.wire.specs.Signed.{signedAt}
-use Rattle.ioctl.specs.Table.{requestOf}
-use Rattle.ioctl.specs.declared.table.Call.the-variants.{SFmt, TryFmt, GFmt, Reqbufs, Querybuf, Qbuf, Dqbuf}
-use Rattle.fields.specs.Fields.{formatCount, formatCode}
-use Rattle.geometry.specs.Geometry.{widthsOf, heightsOf}
-use Rattle.geometry.specs.declared.Range.{Range}
-use Rattle.grid.specs.Grid.{apart, sizeAt}
-use Rattle.buffers.specs.Slot.{slotOffset}
-use Rattle.stream.specs.Calls.{grantOf}
-use Rattle.arrival.specs.declared.Arrival.the-variants.{Stored}
-use Rattle.arrival.specs.Arrivals.{writtenBy}
-use Rattle.status.specs.declared.Verdict.the-variants.{Running, Blank, Gaps, Complete}
-use Rattle.history.specs.Paper.{Event, wholes, dequeues, Calm}
-use Rattle.history.specs.Paper.Event.{whole}
-use Rattle.history.specs.Claims.{_⇔_, timesIn, timesOut, AllHandedOver}
-use Rattle.claims.specs.Calls.{Call, timeOf}
+use Rattle.wire_read.specs.Words.{wordAt}
+use Rattle.wire_signed.specs.Signed.{signedAt}
+use Rattle.ioctl_table.specs.Table.{requestOf}
+use Rattle.ioctl_table.specs.declared.table.Call.the-variants.{SFmt, TryFmt, GFmt, Reqbufs, Querybuf, Qbuf, Dqbuf}
+use Rattle.sheet_contents.specs.Contents.{formatCount}
+use Rattle.sheet_records.specs.Records.{formatCode}
+use Rattle.sheet_geometry.specs.Geometry.{widthsOf, heightsOf}
+use Rattle.sheet_geometry.specs.declared.Range.{Range}
+use Rattle.grid_rules.specs.Grid.{apart, sizeAt}
+use Rattle.stream_slots.specs.Slot.{slotOffset}
+use Rattle.stream_run.specs.Switches.{grantOf}
+use Rattle.stream_arrival.specs.declared.Arrival.the-variants.{Stored}
+use Rattle.stream_arrival.specs.Arrivals.{writtenBy}
+use Rattle.stream_verdict.specs.declared.Verdict.the-variants.{Running, Blank, Gaps, Complete}
+use Rattle.stream_history.specs.Paper.{Event, wholes, dequeues, Calm}
+use Rattle.stream_history.specs.Paper.Event.{whole}
+use Rattle.stream_history.specs.Claims.{_⇔_, timesIn, timesOut, AllHandedOver}
+use Rattle.claims.specs.Calls.{Call, arrivalTime}
 use Rattle.claims.specs.Calls.Call.{request, arrival}
 use Rattle.claims.specs.Machine.{Session, Machine, more, replyIn, NoTrace}
 use Rattle.claims.specs.Words.{told, eventsIn, paperIn, handedIn}
@@ -38,7 +39,7 @@ pub record Demand1 (s m : List ℕ) (S : Session) : Type 0 where
   pub requests : (cs : List Call) (w : ℕ) (a : List ℕ) → S .request cs w a .number ≡ firstNumber (requestTests (S .opening) s (paperIn s S cs) w a)
   -- every arrival is refused by the table, or answered as the paper says
   pub arrivals : (cs : List Call) (f : List ℕ) (x y : ℕ) (other : List ℕ)
-      → S .arrival cs f x y other ≡ refusedBy (arrivalTests (S .opening) (length m) (paperIn s S cs) (length other)) (arrivedOn (paperIn s S cs) (length f) (timeOf x y))
+      → S .arrival cs f x y other ≡ refusedBy (arrivalTests (S .opening) (length m) (paperIn s S cs) (length other)) (arrivedOn (paperIn s S cs) (length f) (arrivalTime x y))
   -- a refused request leaves its argument, and no trace
   pub kept : (cs : List Call) (w : ℕ) (a : List ℕ) → S .request cs w a .number ≢ 0 → (S .request cs w a .argument ≡ a) × NoTrace S cs (request w a)
   -- nor does a refused arrival
@@ -111,7 +112,7 @@ module _ (s : List ℕ) (S : Session) where
     -- its bytes then stand at the start of the slot
     abbrev pub StoredInIt : Type 0
     StoredInIt = (f : List ℕ) (x y : ℕ) (other : List ℕ) → Accepted → wholes since ≡ i
-        → told (paperIn s S upTo) (arrival f x y other) (replyIn S upTo (arrival f x y other)) ≡ whole f (timeOf x y)
+        → told (paperIn s S upTo) (arrival f x y other) (replyIn S upTo (arrival f x y other)) ≡ whole f (arrivalTime x y)
         → (S .arrival upTo f x y other ≡ Stored (wordAt a 0) (paperIn s S upTo .run .accepted))
         × (take (length f) (drop (slotOffset (wordAt a 0) (paperIn s S upTo .size)) (S .memory (more upTo (arrival f x y other)))) ≡ f)
 
@@ -125,7 +126,7 @@ module _ (s : List ℕ) (S : Session) where
     pub back : List Call
     pub is : cs ≡ front ++ arrival frame seconds microseconds other ∷ back
     pub accepted : told (paperIn s S (h ++ front)) (arrival frame seconds microseconds other) (replyIn S (h ++ front) (arrival frame seconds microseconds other))
-        ≡ whole frame (timeOf seconds microseconds)
+        ≡ whole frame (arrivalTime seconds microseconds)
     pub place : wholes (eventsIn S h (paperIn s S h) front) ≡ n
 
   module _ (before : List Call) (w : ℕ) (a : List ℕ) (mid : List Call) where
@@ -138,8 +139,8 @@ module _ (s : List ℕ) (S : Session) where
         × (wordAt (S .request (upTo before w a mid) v c .argument) 0 ≡ wordAt a 0)
         × (wordAt (S .request (upTo before w a mid) v c .argument) 44 ≡ paperIn s S (upTo before w a (r .front)) .run .accepted)
         × (wordAt (S .request (upTo before w a mid) v c .argument) 8 ≡ length (r .frame))
-        × (signedAt (S .request (upTo before w a mid) v c .argument) 20 ≡ timeOf (r .seconds) (r .microseconds) .seconds)
-        × (signedAt (S .request (upTo before w a mid) v c .argument) 24 ≡ timeOf (r .seconds) (r .microseconds) .microseconds)
+        × (signedAt (S .request (upTo before w a mid) v c .argument) 20 ≡ arrivalTime (r .seconds) (r .microseconds) .seconds)
+        × (signedAt (S .request (upTo before w a mid) v c .argument) 24 ≡ arrivalTime (r .seconds) (r .microseconds) .microseconds)
         × (take (length (r .frame)) (drop (wordAt (S .request (upTo before w a mid) v c .argument) 52) (S .memory (upTo before w a mid))) ≡ r .frame)
 
 pub record Demand3 (s m : List ℕ) (S : Session) : Type 0 where

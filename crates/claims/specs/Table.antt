@@ -6,26 +6,27 @@ use mathlib.Core.List.{List, [], _∷_}
 use lib.Dec.{eqb, leb, ltb}
 use lib.ListN.{length}
 use lib.Signed.{ltZ}
-use Rattle.wire.specs.Words.{wordAt}
-use Rattle.wire.specs.Signed.{signed}
-use Rattle.ioctl.specs.Refusal.{errnoOf}
-use Rattle.ioctl.specs.Table.{requestOf}
-use Rattle.ioctl.specs.declared.refusals.Refusal.{Refusal}
-use Rattle.ioctl.specs.declared.refusals.Refusal.the-variants.{ArgumentLength, MemoryLength, Closed, UnknownWord, WrongType, WrongMemory, NoSuchIndex, NoSuchControl, NotDequeued, NoBuffers, ControlDisabled, ControlReadOnly, ControlIsButton, BuffersExist, Streaming, ControlGrabbed, OutOfRange, NothingOutgoing, RunFull, BadSheet, MemoryTooLong}
-use Rattle.ioctl.specs.declared.table.Call.{Call as Asked}
-use Rattle.ioctl.specs.declared.table.Call.the-variants.{Unknown, Querycap, EnumFmt, GFmt, SFmt, TryFmt, Reqbufs, Querybuf, Qbuf, Dqbuf, Streamon, Streamoff, GCtrl, SCtrl, Queryctrl, Cropcap, GCrop, SCrop}
-use Rattle.sheet.specs.Rules.{goodSheet}
-use Rattle.fields.specs.Fields.{formatCount, controlFields}
-use Rattle.fields.specs.declared.Control.{Control}
-use Rattle.control.specs.Find.{present, placeOf, queriedPlace}
-use Rattle.buffers.specs.Lists.{any}
-use Rattle.arrival.specs.Arrivals.{runLimit}
-use Rattle.arrival.specs.Picture.{wholePicture}
-use Rattle.arrival.specs.declared.Arrival.{Arrival}
-use Rattle.arrival.specs.declared.Arrival.the-variants.{Refused, Ignored, Damaged, Dropped, Stored}
-use Rattle.buffers.specs.declared.Time.{Time}
-use Rattle.device.specs.Opening.{longestMemory}
-use Rattle.history.specs.Paper.{Paper, indexOf}
+use Rattle.wire_read.specs.Words.{wordAt}
+use Rattle.wire_signed.specs.Signed.{signed}
+use Rattle.ioctl_table.specs.Refusal.{errnoOf}
+use Rattle.ioctl_table.specs.Table.{requestOf}
+use Rattle.ioctl_table.specs.declared.refusals.Refusal.{Refusal}
+use Rattle.ioctl_table.specs.declared.refusals.Refusal.the-variants.{ArgumentLength, MemoryLength, Closed, UnknownWord, WrongType, WrongMemory, NoSuchIndex, NoSuchControl, NotDequeued, NoBuffers, ControlDisabled, ControlReadOnly, ControlIsButton, BuffersExist, Streaming, ControlGrabbed, OutOfRange, NothingOutgoing, RunFull, BadSheet, MemoryTooLong}
+use Rattle.ioctl_table.specs.declared.table.Call.{Call as Asked}
+use Rattle.ioctl_table.specs.declared.table.Call.the-variants.{Unknown, Querycap, EnumFmt, GFmt, SFmt, TryFmt, Reqbufs, Querybuf, Qbuf, Dqbuf, Streamon, Streamoff, GCtrl, SCtrl, Queryctrl, Cropcap, GCrop, SCrop}
+use Rattle.sheet_rules.specs.Rules.{goodSheet}
+use Rattle.sheet_contents.specs.Contents.{formatCount}
+use Rattle.sheet_records.specs.Records.{controlFields}
+use Rattle.sheet_records.specs.declared.Control.{Control}
+use Rattle.control_place_rules.specs.Find.{present, placeOf, queriedPlace}
+use Rattle.stream_words.specs.Lists.{any}
+use Rattle.stream_arrival.specs.Arrivals.{runLimit}
+use Rattle.picture_rules.specs.Picture.{wholePicture}
+use Rattle.stream_arrival.specs.declared.Arrival.{Arrival}
+use Rattle.stream_arrival.specs.declared.Arrival.the-variants.{Refused, Ignored, Damaged, Dropped, Stored}
+use Rattle.stream_words.specs.declared.Time.{Time}
+use Rattle.device_opening.specs.Opening.{longestMemory}
+use Rattle.stream_history.specs.Paper.{Paper, indexOf}
 
 -- A test, and the reason that is given where it holds.
 pub record Check : Type 0 where

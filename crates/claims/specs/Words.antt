@@ -4,17 +4,17 @@ use mathlib.Core.Bool.{cond}
 use mathlib.Core.List.{List, []}
 use lib.Dec.{eqb}
 use lib.ListN.{length}
-use Rattle.wire.specs.Words.{wordAt}
-use Rattle.ioctl.specs.Table.{requestOf}
-use Rattle.ioctl.specs.declared.table.Call.{Call as Asked}
-use Rattle.ioctl.specs.declared.table.Call.the-variants.{Unknown, Querycap, EnumFmt, GFmt, SFmt, TryFmt, Reqbufs, Querybuf, Qbuf, Dqbuf, Streamon, Streamoff, GCtrl, SCtrl, Queryctrl, Cropcap, GCrop, SCrop}
-use Rattle.arrival.specs.Picture.{wholePicture}
-use Rattle.geometry.specs.Geometry.{lineAlignment}
-use Rattle.format.specs.Size.{imageSize}
-use Rattle.negotiation.specs.Negotiation.{openingFormat}
-use Rattle.history.specs.Paper.{Paper, Event, blank, noted, handedOver, refusedArrival, tells}
-use Rattle.history.specs.Paper.Event.{put, whole, damaged, handed, begun, ended, sized, idle}
-use Rattle.claims.specs.Calls.{Call, Reply, timeOf}
+use Rattle.wire_read.specs.Words.{wordAt}
+use Rattle.ioctl_table.specs.Table.{requestOf}
+use Rattle.ioctl_table.specs.declared.table.Call.{Call as Asked}
+use Rattle.ioctl_table.specs.declared.table.Call.the-variants.{Unknown, Querycap, EnumFmt, GFmt, SFmt, TryFmt, Reqbufs, Querybuf, Qbuf, Dqbuf, Streamon, Streamoff, GCtrl, SCtrl, Queryctrl, Cropcap, GCrop, SCrop}
+use Rattle.picture_rules.specs.Picture.{wholePicture}
+use Rattle.sheet_geometry.specs.Geometry.{lineAlignment}
+use Rattle.format_rules.specs.Size.{imageSize}
+use Rattle.negotiation_rules.specs.Negotiation.{openingFormat}
+use Rattle.stream_history.specs.Paper.{Paper, Event, blank, noted, handedOver, refusedArrival, tells}
+use Rattle.stream_history.specs.Paper.Event.{put, whole, damaged, handed, begun, ended, sized, idle}
+use Rattle.claims.specs.Calls.{Call, Reply, arrivalTime}
 use Rattle.claims.specs.Calls.Call.{request, arrival}
 use Rattle.claims.specs.Calls.Reply.{answered, taken}
 use Rattle.claims.specs.Machine.{Session, more, replyIn}
@@ -48,7 +48,7 @@ requestTold p SCrop a b = idle
 
 -- an accepted arrival is whole if it has the image size in force and its microseconds are in 0..999,999
 abbrev pub arrivalTold : Paper → List ℕ → ℕ → ℕ → Event
-arrivalTold p f x y = cond (wholePicture (length f) (p .size) (timeOf x y)) (whole f (timeOf x y)) damaged
+arrivalTold p f x y = cond (wholePicture (length f) (p .size) (arrivalTime x y)) (whole f (arrivalTime x y)) damaged
 
 -- with a second stream: a paper for each type, on which a call that names another type tells nothing (idle)
 -- a request is accepted if it is answered 0, an arrival if it is made in a run and not refused

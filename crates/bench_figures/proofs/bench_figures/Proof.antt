@@ -1,0 +1,48 @@
+-- The table is computed, both sides of every row. Assumes nothing.
+use mathlib.Core.Path.{refl}
+use Rattle.wire_read.specs.Words.{wordAt, le32, bytesOf}
+use Rattle.wire_signed.specs.Signed.{signed, bits, signedAt, above}
+use Rattle.sheet_contents.specs.Contents.{geometryAt, controlsAt, controlCount, controlAt}
+use Rattle.sheet_records.specs.Records.{controlId, controlKind, limitsOf, controlFlags, controlFields}
+use Rattle.sheet_geometry.specs.Geometry.{rangeAt, widthsOf, lineAlignment, rectAt, cropBounds, cropDefault}
+use Rattle.grid_rules.specs.Grid.{nearestMultiple, nearestUpTo, nearestSize, nearestValue}
+use Rattle.format_rules.specs.Code.{bytesPerPixel, halfChroma}
+use Rattle.format_rules.specs.Size.{roundUp, bytesPerLine, heldHeight, firstPlane, imageSize}
+use Rattle.stream_slots.specs.Slot.{slotSize}
+use Rattle.stream_run.specs.Switches.{grantOf, requestBuffersOf as bufferRequest, startOf, stopOf}
+use Rattle.stream_run.specs.Stream.{freshStream, started, stopped}
+use Rattle.stream_words.specs.Moves.{emptied}
+use Rattle.sheet_copy.specs.Copy.{keptOf}
+use Rattle.sheet_contents.specs.Contents.{formatsAt, formatAt}
+use Rattle.sheet_records.specs.Records.{formatCode}
+use Rattle.sheet_geometry.specs.Geometry.{heightsOf}
+use Rattle.ioctl_table.specs.Table.{knownWords, callOf, requestOf}
+use Rattle.negotiation_rules.specs.Negotiation.{openingFormat}
+use Rattle.control_value_rules.specs.Values.{defaultValues, openingValues}
+use Rattle.stream_verdict.specs.Film.{verdictAfter, verdictOf}
+use Rattle.device_state.specs.State.{openingState}
+use Rattle.buffer_calls.specs.Buffers.{reqbufsOf}
+use Rattle.run_calls.specs.Runs.{streamonOf, streamoffOf}
+use Rattle.device_opening.specs.Opening.{openedOf}
+use Rattle.request_topics.specs.Request.{requestAnswer}
+use Rattle.device_film.specs.Film.{deviceVerdict}
+use Rattle.bench_sheet.proofs.Good.{bench-good}
+use Rattle.plane_rules.specs.Planes.{planesOf, componentOf, componentLength, planeLength, planeStart}
+use Rattle.negotiation_rules.specs.Negotiation.{negotiated}
+use Rattle.crop_rules.specs.Crop.{minZ, maxZ, clampZ, sizeIn, clampedPlace, widthIn, leftIn, clamped}
+use Rattle.control_place_rules.specs.First.{firstFrom, firstBelow}
+use Rattle.control_place_rules.specs.Find.{present, placeOf}
+use Rattle.control_value_rules.specs.Values.{rangedAt, settingAt, settingOf}
+use Rattle.control_calls.specs.Controls.{sCtrlOf}
+use Rattle.control_replies.specs.Replies.{valueReply}
+use Rattle.bench_sheet.specs.Bench.{benchSheet}
+use Rattle.bench_figures.specs.Figures.{figures}
+use Rattle.bench_figures.proofs.bench_figures.Statement.{statement}
+use Rattle.bench_figures.proofs.bench_figures.Tie as tie
+
+returns : tie.Need-returns
+unfolding figures keptOf knownWords callOf requestOf openedOf openingState openingFormat openingValues defaultValues freshStream emptied requestAnswer reqbufsOf streamonOf streamoffOf bufferRequest startOf started stopOf stopped deviceVerdict verdictOf verdictAfter formatCode formatAt formatsAt heightsOf grantOf benchSheet wordAt le32 bytesOf signed bits signedAt above geometryAt controlsAt controlCount controlAt controlId controlKind limitsOf controlFlags controlFields rangeAt widthsOf lineAlignment rectAt cropBounds cropDefault nearestMultiple nearestUpTo nearestSize nearestValue bytesPerPixel halfChroma roundUp bytesPerLine heldHeight firstPlane imageSize slotSize planesOf componentOf componentLength planeLength planeStart negotiated minZ maxZ clampZ sizeIn clampedPlace widthIn leftIn clamped firstFrom firstBelow present placeOf rangedAt settingAt settingOf sCtrlOf valueReply
+returns c = rw bench-good refl
+
+pub bench-figures-spec : {M : Type 1} → statement M
+bench-figures-spec = tie.close (tie.spec returns)

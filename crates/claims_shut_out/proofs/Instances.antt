@@ -1,0 +1,227 @@
+-- The wrong devices have the faults.
+use mathlib.Core.Path.{_≡_, refl, sym, ap, ap₂, _∙_, fun-ext}
+use mathlib.Core.Logic.{_≢_}
+use mathlib.Core.Bool.{Bool, true, false, cond, not, _&&_, false≢true}
+use Prim.Native.Nat.{ℕ, _+_, _-_}
+use native.Mathlib.Omega.{arith}
+use mathlib.Core.List.{List, [], _∷_, _++_, map, append-nil, append-assoc}
+use lib.Dec.{eqb}
+use lib.ListN.{replicate, drop}
+use lib.IntN.{pos}
+use lib.Signed.{ltZ}
+use Rattle.wire_read.specs.Words.{wordAt, le32, bytesOf}
+use Rattle.wire_signed.specs.Signed.{signed, signedAt}
+use Rattle.ioctl_table.specs.Table.{requestOf, callOf, knownWords}
+use Rattle.ioctl_table.specs.declared.table.Call.{Call as Asked}
+use Rattle.ioctl_table.specs.declared.table.Call.the-variants.{SFmt, TryFmt, Reqbufs, Qbuf, Dqbuf, SCrop}
+use Rattle.stream_words.specs.Stream.{Run}
+use Rattle.stream_run.specs.Stream.{freshRun}
+use Rattle.stream_arrival.specs.declared.Arrival.{Arrival}
+use Rattle.stream_arrival.specs.declared.Arrival.the-variants.{Refused, Ignored, Damaged, Dropped, Stored}
+use Rattle.stream_verdict.specs.declared.Verdict.{Verdict}
+use Rattle.stream_verdict.specs.declared.Verdict.the-variants.{Running, Blank, Gaps, Complete}
+use Rattle.stream_history.specs.Paper.{Paper, blank, noted, tells}
+use Rattle.claims.specs.Calls.{Call, Reply}
+use Rattle.claims.specs.Calls.Call.{request, arrival}
+use Rattle.claims.specs.Calls.Reply.{taken}
+use Rattle.claims.specs.Machine.{Session, Machine, Given, more, replyIn}
+use Rattle.claims.specs.Words.{told, openingSize, paperIn}
+use Rattle.claims.specs.Meets.{Demand1}
+use Rattle.claims.proofs.Devices.{device-meets}
+use Rattle.bench_sheet.specs.Bench.{benchSheet}
+use Rattle.claims_shut_out.specs.Faults.{leftZero, AlwaysComplete, NeverComplete, LaterPretend, OddRefused, FailedCounted, StoredNumbered, YoungestFirst, Out}
+use Rattle.claims_shut_out.specs.Wrong.{ours, raised, leftRaised, telling, place, only, refused, noneIn, echoed, oddOut, answering, filledBy, youngest, praised, blamed, failedIn, withFailed, renumbered, flooded, ifStored, filledOnce, neverOpens, allRefusing, grantsNone, grantsFewer, alwaysRunning, alwaysBlank, alwaysGaps, alwaysComplete, stoppedComplete, neverComplete, idle, laterPretend, uncounted, tryEchoes, oddTried, oddSet, failedCounted, storedNumbered, youngestFirst, Wrong, WrongDevices}
+use Rattle.claims_shut_out.proofs.Played.{buffer, reqbufs, dqbuf, asked, four, at-four}
+use Rattle.claims_shut_out.proofs.Shut.{dark, dark-long, never-opens, all-refusing, grants-none, grants-fewer, constant-verdict, always-complete, invented-totals, try-echoes, odd-tried, odd-set, left-raised, failed-counted}
+use Rattle.claims_shut_out.proofs.Film.{idle-arrival, later-pretend, stored-numbered, youngest-first}
+use Rattle.claims_shut_out.proofs.Complete.{never-complete}
+
+-- ---- requests
+
+no-buffers : wordAt (replicate 20 0) 0 ≡ 0
+unfolding wordAt
+no-buffers = refl
+
+refuses-odd : (call : Asked) → eqb (place call) (place call) ≡ true → OddRefused (answering call oddOut) call
+refuses-odd call same s m cs w a e odd off z =
+    let r : Given = ours s m .request cs w a in
+    let q : only call oddOut (requestOf w .call) a r .number ≡ 22 =
+    ap (λ (c : Asked). only call oddOut c a r .number) e ∙ ap₂ (λ (b : Bool) (n : ℕ). (cond b (cond (eqb n 1) (refused a r) r) r) .number) same odd in
+    omega (arith, q, z)
+
+raised-same : (cs : List Call) (c e : Call) → raised c ≡ raised e → map raised (more cs c) ≡ map raised (more cs e)
+raised-same [] c e h = ap (λ (x : Call). x ∷ []) h
+raised-same (d ∷ cs) c e h = ap (λ (l : List Call). raised d ∷ l) (raised-same cs c e h)
+
+-- left 0 is not negative, and stays
+once-raised : (w : ℕ) (a : List ℕ) → requestOf w .call ≡ SCrop → ltZ (signedAt a 4) (pos 0) ≡ true → raised (request w a) ≡ raised (request w (leftZero a))
+unfolding wordAt le32 bytesOf signed signedAt
+once-raised w a call below = ap₂ (λ (c : Asked) (b : Bool). request w (cond (eqb (place c) (place SCrop) && b) (leftZero a) a)) call below
+    ∙ sym (ap (λ (c : Asked). request w (cond (eqb (place c) (place SCrop) && false) (leftZero (leftZero a)) (leftZero a))) call)
+
+-- ---- the youngest
+
+youngest-more : (S : Session) (cs h : List Call) (c : Call) (k : ℕ) → youngest S h (more cs c) k ≡ filledBy (replyIn S (h ++ cs) c) (youngest S h cs k)
+youngest-more S [] h c k = ap (λ (l : List Call). filledBy (replyIn S l c) k) (sym (append-nil h))
+youngest-more S (d ∷ cs) h c k =
+    youngest-more S cs (more h d) c (filledBy (replyIn S h d) k)
+    ∙ ap (λ (l : List Call). filledBy (replyIn S l c) (youngest S (more h d) cs (filledBy (replyIn S h d) k))) (append-assoc h (d ∷ []) cs)
+
+one-byte : (k : ℕ) (l : List ℕ) → wordAt (k ∷ 0 ∷ 0 ∷ 0 ∷ l) 0 ≡ k
+unfolding wordAt
+one-byte k l = omega arith
+
+gives-youngest : YoungestFirst youngestFirst
+gives-youngest s m cs f x y other k n w a e call h =
+    let S : Session = ours s m in
+    let l : List Call = more cs (arrival f x y other) in
+    ap (λ (c : Asked). wordAt (only Dqbuf (λ b r. record { number = r .number; argument = youngest S [] l 0 ∷ 0 ∷ 0 ∷ 0 ∷ drop 4 (r .argument) }) c a (S .request l w a) .argument) 0) call
+    ∙ one-byte (youngest S [] l 0) (drop 4 (S .request l w a .argument))
+    ∙ youngest-more S cs [] (arrival f x y other) 0 ∙ ap (λ (r : Arrival). filledBy (taken r) (youngest S [] cs 0)) e
+
+-- ---- the verdict
+
+-- the paper is told by the answers alone
+same-paper : (s : List ℕ) (S : Session) (memory : List Call → List ℕ) (verdict : List Call → Verdict) (counts : List Call → Run) (cs : List Call)
+    → paperIn s (telling S memory verdict counts) cs ≡ paperIn s S cs
+same-paper s S memory verdict counts cs =
+    ap (λ (r : List Call → Call → Reply). noted (blank (openingSize s)) (tells r more told [] (blank (openingSize s)) cs)) (fun-ext λ h. fun-ext λ c. replies h c)
+  where
+    replies : (h : List Call) (c : Call) → replyIn (telling S memory verdict counts) h c ≡ replyIn S h c
+    replies h (request w a) = refl
+    replies h (arrival f x y other) = refl
+
+praised-stopped : (v : Verdict) → v ≢ Running → praised v ≡ Complete
+praised-stopped Running h = absurd (h refl)
+praised-stopped Blank h = refl
+praised-stopped Gaps h = refl
+praised-stopped Complete h = refl
+
+praises : AlwaysComplete stoppedComplete
+praises s m cs stopped =
+    let S : Session = ours s m in
+    let e = sym (ap (λ (p : Paper). p .running) (same-paper s S (S .memory) (λ cs. praised (S .verdict cs)) (S .counts) cs)) ∙ stopped in
+    praised-stopped (S .verdict cs) (λ v. false≢true (sym e ∙ device-meets .counts s m .running cs .0 v))
+
+abbrev isComplete : Verdict → Bool
+isComplete Running = false
+isComplete Blank = false
+isComplete Gaps = false
+isComplete Complete = true
+
+unfair : (v : Verdict) → isComplete (blamed v) ≡ false
+unfair Running = refl
+unfair Blank = refl
+unfair Gaps = refl
+unfair Complete = refl
+
+blames : NeverComplete neverComplete
+blames s m cs e = false≢true (sym (unfair (ours s m .verdict cs)) ∙ ap isComplete e)
+
+-- ---- the counts
+
+-- with buffers and none outgoing a DQBUF gives 11, and is counted
+module _ (S : Session) (d : Demand1 benchSheet dark S) where
+  gives-11 : S .request (reqbufs ∷ []) 0xC0445611 (buffer 0) .number ≡ 11
+  unfolding requestOf callOf knownWords wordAt le32 bytesOf
+  gives-11 = asked dark dark-long S d (reqbufs ∷ []) (four dark dark-long S d) 0xC0445611 (buffer 0) (at-four dark dark-long S d) refl
+
+  is-refused : S .request (reqbufs ∷ []) 0xC0445611 (buffer 0) .number ≢ 0
+  is-refused z = omega (arith, gives-11, z)
+
+  one-failed : failedIn S [] (reqbufs ∷ dqbuf ∷ []) ≡ 1
+  unfolding requestOf callOf knownWords
+  one-failed = ap (λ (n : ℕ). 0 + (cond (not (eqb n 0)) 1 0 + 0)) gives-11
+
+  none-failed : failedIn S [] (reqbufs ∷ []) ≡ 0
+  unfolding requestOf callOf knownWords
+  none-failed = refl
+
+  miscounts : withFailed (S .counts (reqbufs ∷ dqbuf ∷ [])) (failedIn S [] (reqbufs ∷ dqbuf ∷ [])) ≢ withFailed (S .counts (reqbufs ∷ [])) (failedIn S [] (reqbufs ∷ []))
+  miscounts e =
+      let same = ap (λ (r : Run). r .handed) (d .kept (reqbufs ∷ []) 0xC0445611 (buffer 0) is-refused .1 [] .counts) in
+      let h = ap (λ (r : Run). r .handed) e in
+      omega (arith, same, h, one-failed, none-failed)
+
+counts-failed : FailedCounted failedCounted
+unfolding requestOf callOf knownWords
+counts-failed =
+    let d : Demand1 benchSheet dark (ours benchSheet dark) = device-meets .demand-1 benchSheet dark in
+    (benchSheet, dark, reqbufs ∷ [], 0xC0445611, buffer 0, refl, is-refused (ours benchSheet dark) d, miscounts (ours benchSheet dark) d)
+
+-- ---- arrivals
+
+-- the number of a stored arrival, else n
+abbrev numberIn : Arrival → ℕ → ℕ
+numberIn (Refused why) n = n
+numberIn Ignored n = n
+numberIn Damaged n = n
+numberIn Dropped n = n
+numberIn (Stored k j) n = j
+
+renumbers : (x : Arrival) (r : Run) → numberIn (renumbered x r) (r .accepted - (r .damaged + r .dropped)) ≡ r .accepted - (r .damaged + r .dropped)
+renumbers (Refused why) r = refl
+renumbers Ignored r = refl
+renumbers Damaged r = refl
+renumbers Dropped r = refl
+renumbers (Stored k j) r = refl
+
+numbers-stored : StoredNumbered storedNumbered
+numbers-stored s m cs f x y other k n e =
+    let r : Run = ours s m .counts cs in
+    sym (ap (λ (v : Arrival). numberIn v (r .accepted - (r .damaged + r .dropped))) e) ∙ renumbers (ours s m .arrival cs f x y other) r
+
+-- what comes behind a stored arrival is not looked at
+module _ (s : List ℕ) (S : Session) (m f : List ℕ) (x y : ℕ) (other : List ℕ) (k n : ℕ) where
+  first-only : (cs h ds : List Call) → S .arrival (h ++ cs) f x y other ≡ Stored k n
+      → filledOnce s S m h (cs ++ arrival f x y other ∷ ds) ≡ filledOnce s S m h (cs ++ arrival f x y other ∷ [])
+  first-only [] h ds e = ap (λ (r : Arrival). ifStored r (flooded (paperIn s S h .granted) (paperIn s S h .size) m f) (filledOnce s S m (more h (arrival f x y other)) ds)) (at-h)
+      ∙ sym (ap (λ (r : Arrival). ifStored r (flooded (paperIn s S h .granted) (paperIn s S h .size) m f) m) at-h)
+    where
+      at-h : S .arrival h f x y other ≡ Stored k n
+      at-h = ap (λ (l : List Call). S .arrival l f x y other) (sym (append-nil h)) ∙ e
+  first-only (request w a ∷ cs) h ds e =
+      first-only cs (more h (request w a)) ds (ap (λ (l : List Call). S .arrival l f x y other) (append-assoc h (request w a ∷ []) cs) ∙ e)
+  first-only (arrival g u v lent ∷ cs) h ds e =
+      ap (ifStored (S .arrival h g u v lent) (flooded (paperIn s S h .granted) (paperIn s S h .size) m g))
+      (first-only cs (more h (arrival g u v lent)) ds (ap (λ (l : List Call). S .arrival l f x y other) (append-assoc h (arrival g u v lent ∷ []) cs) ∙ e))
+
+pretends : LaterPretend laterPretend
+pretends s m cs f x y other k n ds g u v lent e =
+    let S : Session = ours s m in
+    ap (filledOnce s S m []) (append-assoc cs (arrival f x y other ∷ ds) (arrival g u v lent ∷ []))
+    ∙ first-only s S m f x y other k n cs [] (ds ++ (arrival g u v lent ∷ [])) e ∙ sym (first-only s S m f x y other k n cs [] ds e)
+
+-- ---- all of them
+
+-- who has a fault that is shut out does not meet the demands
+wrong : {Fault : Machine → Type 0} → Out Fault → (M : Machine) → Fault M → Wrong Fault M
+wrong out M fault = (fault, out M fault)
+
+pub wrong-devices : WrongDevices
+wrong-devices = record {
+  never-opens = wrong never-opens neverOpens (λ s m e. omega (arith, e));
+  all-refusing = wrong all-refusing allRefusing (λ s m cs w a e. omega (arith, e));
+  grants-none = wrong grants-none grantsNone (λ s m cs w a e. ap (λ (call : Asked). wordAt (only Reqbufs noneIn call a (ours s m .request cs w a) .argument) 0) e ∙ no-buffers);
+  grants-fewer = wrong grants-fewer grantsFewer (λ s m cs w a v b e g h z.
+      let q : only Qbuf refused (requestOf v .call) b (ours s m .request (more cs (request w a)) v b) .number ≡ 22 =
+      ap (λ (call : Asked). only Qbuf refused call b (ours s m .request (more cs (request w a)) v b) .number) g in
+      omega (arith, q, z));
+  always-running = wrong constant-verdict alwaysRunning (Running, λ s m cs. refl);
+  always-blank = wrong constant-verdict alwaysBlank (Blank, λ s m cs. refl);
+  always-gaps = wrong constant-verdict alwaysGaps (Gaps, λ s m cs. refl);
+  always-complete = wrong constant-verdict alwaysComplete (Complete, λ s m cs. refl);
+  stopped-complete = wrong always-complete stoppedComplete praises;
+  never-complete = wrong never-complete neverComplete blames;
+  idle-arrival = wrong idle-arrival idle (λ s m cs f x y other. refl);
+  later-pretend = wrong later-pretend laterPretend pretends;
+  invented-totals = wrong invented-totals uncounted (freshRun 0, λ s m cs. refl);
+  try-echoes = wrong try-echoes tryEchoes (λ s m cs t a e. ap (λ (call : Asked). only TryFmt echoed call a (ours s m .request cs t a) .argument) e);
+  odd-tried = wrong odd-tried oddTried (refuses-odd TryFmt refl);
+  odd-set = wrong odd-set oddSet (refuses-odd SFmt refl);
+  left-raised = wrong left-raised leftRaised (λ s m cs w a v b set get below.
+      ap (λ (l : List Call). ours s m .request l v b) (raised-same cs (request w a) (request w (leftZero a)) (once-raised w a set below)));
+  failed-counted = wrong failed-counted failedCounted counts-failed;
+  stored-numbered = wrong stored-numbered storedNumbered numbers-stored;
+  youngest-first = wrong youngest-first youngestFirst gives-youngest;
+}

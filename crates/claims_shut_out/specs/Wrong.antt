@@ -1,0 +1,312 @@
+-- Wrong devices, each like ours but for one thing.
+use Prim.Native.Nat.{ℕ, zero, suc, _+_, _-_, _%_}
+use mathlib.Core.Bool.{cond, not, _&&_}
+use mathlib.Core.List.{List, [], _∷_, map}
+use lib.Dec.{eqb}
+use lib.ListN.{replicate, drop}
+use lib.Seq.{sets}
+use lib.IntN.{pos}
+use lib.Signed.{ltZ}
+use Rattle.wire_read.specs.Words.{wordAt}
+use Rattle.wire_signed.specs.Signed.{signedAt}
+use Rattle.ioctl_table.specs.Table.{requestOf}
+use Rattle.ioctl_table.specs.declared.table.Call.{Call as Asked}
+use Rattle.ioctl_table.specs.declared.table.Call.the-variants.{Unknown, Querycap, EnumFmt, GFmt, SFmt, TryFmt, Reqbufs, Querybuf, Qbuf, Dqbuf, Streamon, Streamoff, GCtrl, SCtrl, Queryctrl, Cropcap, GCrop, SCrop}
+use Rattle.stream_slots.specs.Slot.{slotOffset}
+use Rattle.stream_words.specs.Stream.{Run}
+use Rattle.stream_run.specs.Stream.{freshRun}
+use Rattle.stream_arrival.specs.declared.Arrival.{Arrival}
+use Rattle.stream_arrival.specs.declared.Arrival.the-variants.{Refused, Ignored, Damaged, Dropped, Stored}
+use Rattle.stream_verdict.specs.declared.Verdict.{Verdict}
+use Rattle.stream_verdict.specs.declared.Verdict.the-variants.{Running, Blank, Gaps, Complete}
+use Rattle.claims.specs.Calls.{Call, Reply}
+use Rattle.claims.specs.Calls.Call.{request, arrival}
+use Rattle.claims.specs.Calls.Reply.{answered, taken}
+use Rattle.claims.specs.Machine.{Session, Machine, Given, more, replyIn}
+use Rattle.claims.specs.Words.{paperIn}
+use Rattle.claims.specs.Meets.{Meets}
+use Rattle.claims.specs.Device.{machineOf, ourDevice}
+use Rattle.claims_shut_out.specs.Faults.{leftZero, NeverOpens, AllRefusing, GrantsNone, GrantsFewer, ConstantVerdict, AlwaysComplete, NeverComplete, IdleArrival, LaterPretend, InventedTotals, TryEchoes, OddRefused, LeftRaised, FailedCounted, StoredNumbered, YoungestFirst}
+
+-- our device
+abbrev pub ours : Machine
+ours = machineOf ourDevice
+
+-- ---- a session with one thing changed
+
+module _ (S : Session) where
+  abbrev pub withOpening : ℕ → Session
+  withOpening n = record {
+    opening = n;
+    request = S .request;
+    arrival = S .arrival;
+    leaves = S .leaves;
+    memory = S .memory;
+    verdict = S .verdict;
+    counts = S .counts;
+    plane = S .plane;
+  }
+
+  abbrev pub withRequest : (List Call → ℕ → List ℕ → Given) → Session
+  withRequest g = record {
+    opening = S .opening;
+    request = g;
+    arrival = S .arrival;
+    leaves = S .leaves;
+    memory = S .memory;
+    verdict = S .verdict;
+    counts = S .counts;
+    plane = S .plane;
+  }
+
+  abbrev pub withArrival : (List Call → List ℕ → ℕ → ℕ → List ℕ → Arrival) → Session
+  withArrival g = record {
+    opening = S .opening;
+    request = S .request;
+    arrival = g;
+    leaves = S .leaves;
+    memory = S .memory;
+    verdict = S .verdict;
+    counts = S .counts;
+    plane = S .plane;
+  }
+
+  -- the memory, the verdict and the counts: what is read and no answer
+  abbrev pub telling : (List Call → List ℕ) → (List Call → Verdict) → (List Call → Run) → Session
+  telling memory verdict counts = record {
+    opening = S .opening;
+    request = S .request;
+    arrival = S .arrival;
+    leaves = S .leaves;
+    memory = memory;
+    verdict = verdict;
+    counts = counts;
+    plane = S .plane;
+  }
+
+-- the calls by their place in a row, and whether two are the same
+abbrev pub place : Asked → ℕ
+place Unknown = 0
+place Querycap = 1
+place EnumFmt = 2
+place GFmt = 3
+place SFmt = 4
+place TryFmt = 5
+place Reqbufs = 6
+place Querybuf = 7
+place Qbuf = 8
+place Dqbuf = 9
+place Streamon = 10
+place Streamoff = 11
+place GCtrl = 12
+place SCtrl = 13
+place Queryctrl = 14
+place Cropcap = 15
+place GCrop = 16
+place SCrop = 17
+
+-- one call answered otherwise: by its argument and by what it was answered
+abbrev pub only : Asked → (List ℕ → Given → Given) → Asked → List ℕ → Given → Given
+only call g asked a r = cond (eqb (place asked) (place call)) (g a r) r
+
+abbrev pub answering : Asked → (List ℕ → Given → Given) → Machine
+answering call g s m = withRequest (ours s m) (λ cs w a. only call g (requestOf w .call) a (ours s m .request cs w a))
+
+-- ---- requests
+
+-- every opening is refused
+abbrev pub neverOpens : Machine
+neverOpens s m = withOpening (ours s m) 22
+
+-- a request is refused
+abbrev pub refused : List ℕ → Given → Given
+refused a r = record { number = 22; argument = a }
+
+-- all requests are, though the opening gave 0
+abbrev pub allRefusing : Machine
+allRefusing s m = withRequest (ours s m) (λ cs w a. refused a (ours s m .request cs w a))
+
+-- a buffer request is answered with no buffers
+abbrev pub noneIn : List ℕ → Given → Given
+noneIn a r = record { number = r .number; argument = replicate 20 0 }
+
+abbrev pub grantsNone : Machine
+grantsNone = answering Reqbufs noneIn
+
+-- a buffer request tells what ours tells, and no buffer can be handed in
+abbrev pub grantsFewer : Machine
+grantsFewer = answering Qbuf refused
+
+-- TRY_FMT gives its question back
+abbrev pub echoed : List ℕ → Given → Given
+echoed a r = record { number = r .number; argument = a }
+
+abbrev pub tryEchoes : Machine
+tryEchoes = answering TryFmt echoed
+
+-- an odd width is refused
+abbrev pub oddOut : List ℕ → Given → Given
+oddOut a r = cond (eqb (wordAt a 4 % 2) 1) (refused a r) r
+
+abbrev pub oddTried : Machine
+oddTried = answering TryFmt oddOut
+
+abbrev pub oddSet : Machine
+oddSet = answering SFmt oddOut
+
+-- a call as it is taken: an S_CROP of a negative left is one of left 0
+abbrev pub raised : Call → Call
+raised (request w a) = request w (cond (eqb (place (requestOf w .call)) (place SCrop) && ltZ (signedAt a 4) (pos 0)) (leftZero a) a)
+raised (arrival f x y other) = arrival f x y other
+
+abbrev pub leftRaised : Machine
+leftRaised s m = withRequest (ours s m) (λ cs w a. ours s m .request (map raised cs) w a)
+
+-- the buffer that a reply says was filled, else k
+abbrev pub filledBy : Reply → ℕ → ℕ
+filledBy (answered n b) k = k
+filledBy (taken (Refused why)) k = k
+filledBy (taken Ignored) k = k
+filledBy (taken Damaged) k = k
+filledBy (taken Dropped) k = k
+filledBy (taken (Stored j n)) k = j
+
+-- the buffer that was filled last by calls made after h, k if none was
+abbrev pub youngest : Session → List Call → List Call → ℕ → ℕ
+youngest S h [] k = k
+youngest S h (c ∷ cs) k = youngest S (more h c) cs (filledBy (replyIn S h c) k)
+
+-- an accepted DQBUF answers that buffer; an index, below 32, is one byte
+abbrev pub youngestFirst : Machine
+youngestFirst s m =
+    let S : Session = ours s m in
+    withRequest S (λ cs w a. only Dqbuf (λ b r. record { number = r .number; argument = youngest S [] cs 0 ∷ 0 ∷ 0 ∷ 0 ∷ drop 4 (r .argument) }) (requestOf w .call) a (S .request cs w a))
+
+-- ---- the verdict and the counts
+
+abbrev pub judging : (Verdict → Verdict) → Machine
+judging g s m = telling (ours s m) (ours s m .memory) (λ cs. g (ours s m .verdict cs)) (ours s m .counts)
+
+-- the film is always the same
+abbrev pub alwaysRunning : Machine
+alwaysRunning = judging (λ v. Running)
+
+abbrev pub alwaysBlank : Machine
+alwaysBlank = judging (λ v. Blank)
+
+abbrev pub alwaysGaps : Machine
+alwaysGaps = judging (λ v. Gaps)
+
+abbrev pub alwaysComplete : Machine
+alwaysComplete = judging (λ v. Complete)
+
+-- it is COMPLETE as soon as it does not run
+abbrev pub praised : Verdict → Verdict
+praised Running = Running
+praised Blank = Complete
+praised Gaps = Complete
+praised Complete = Complete
+
+abbrev pub stoppedComplete : Machine
+stoppedComplete = judging praised
+
+-- it has gaps where it is COMPLETE
+abbrev pub blamed : Verdict → Verdict
+blamed Running = Running
+blamed Blank = Blank
+blamed Gaps = Gaps
+blamed Complete = Gaps
+
+abbrev pub neverComplete : Machine
+neverComplete = judging blamed
+
+abbrev pub counting : (Session → List Call → Run) → Machine
+counting g s m = telling (ours s m) (ours s m .memory) (ours s m .verdict) (g (ours s m))
+
+-- nothing is ever counted
+abbrev pub uncounted : Machine
+uncounted = counting (λ S cs. freshRun 0)
+
+-- how many refused DQBUFs there are among calls made after h
+abbrev pub failedIn : Session → List Call → List Call → ℕ
+failedIn S h [] = 0
+failedIn S h (request w a ∷ cs) =
+    cond (eqb (place (requestOf w .call)) (place Dqbuf) && not (eqb (S .request h w a .number) 0)) 1 0 + failedIn S (more h (request w a)) cs
+failedIn S h (arrival f x y other ∷ cs) = failedIn S (more h (arrival f x y other)) cs
+
+-- they count as handed over
+abbrev pub withFailed : Run → ℕ → Run
+withFailed r n =
+    record { ran = r .ran; accepted = r .accepted; handed = r .handed + n; damaged = r .damaged; dropped = r .dropped; discarded = r .discarded }
+
+abbrev pub failedCounted : Machine
+failedCounted = counting (λ S cs. withFailed (S .counts cs) (failedIn S [] cs))
+
+-- ---- arrivals
+
+-- a stored frame gets the count of those stored before it in its run
+abbrev pub renumbered : Arrival → Run → Arrival
+renumbered (Refused why) r = Refused why
+renumbered Ignored r = Ignored
+renumbered Damaged r = Damaged
+renumbered Dropped r = Dropped
+renumbered (Stored k n) r = Stored k (r .accepted - (r .damaged + r .dropped))
+
+abbrev pub storedNumbered : Machine
+storedNumbered s m = withArrival (ours s m) (λ cs f x y other. renumbered (ours s m .arrival cs f x y other) (ours s m .counts cs))
+
+abbrev pub writing : (List ℕ → Session → List ℕ → List Call → List ℕ) → Machine
+writing g s m = telling (ours s m) (g s (ours s m) m) (ours s m .verdict) (ours s m .counts)
+
+-- nothing is ever written
+abbrev pub idle : Machine
+idle = writing (λ s S m cs. m)
+
+-- a frame in each of the first n slots
+abbrev pub flooded : ℕ → ℕ → List ℕ → List ℕ → List ℕ
+flooded zero size m f = m
+flooded (suc n) size m f = sets (flooded n size m f) (slotOffset n size) f
+
+-- this if the arrival was stored, else that
+abbrev pub ifStored : Arrival → List ℕ → List ℕ → List ℕ
+ifStored (Refused why) m n = n
+ifStored Ignored m n = n
+ifStored Damaged m n = n
+ifStored Dropped m n = n
+ifStored (Stored k j) m n = m
+
+-- the first stored arrival fills every buffer, and no other writes; calls made after h
+abbrev pub filledOnce : List ℕ → Session → List ℕ → List Call → List Call → List ℕ
+filledOnce s S m h [] = m
+filledOnce s S m h (request w a ∷ cs) = filledOnce s S m (more h (request w a)) cs
+filledOnce s S m h (arrival f x y other ∷ cs) =
+    ifStored (S .arrival h f x y other) (flooded (paperIn s S h .granted) (paperIn s S h .size) m f) (filledOnce s S m (more h (arrival f x y other)) cs)
+
+abbrev pub laterPretend : Machine
+laterPretend = writing (λ s S m cs. filledOnce s S m [] cs)
+
+-- a device that has the fault, and does not meet the demands
+abbrev pub Wrong : (Machine → Type 0) → Machine → Type 0
+Wrong Fault M = Fault M × (Meets M → ⊥)
+
+pub record WrongDevices : Type 0 where
+  pub never-opens : Wrong NeverOpens neverOpens
+  pub all-refusing : Wrong AllRefusing allRefusing
+  pub grants-none : Wrong GrantsNone grantsNone
+  pub grants-fewer : Wrong GrantsFewer grantsFewer
+  pub always-running : Wrong ConstantVerdict alwaysRunning
+  pub always-blank : Wrong ConstantVerdict alwaysBlank
+  pub always-gaps : Wrong ConstantVerdict alwaysGaps
+  pub always-complete : Wrong ConstantVerdict alwaysComplete
+  pub stopped-complete : Wrong AlwaysComplete stoppedComplete
+  pub never-complete : Wrong NeverComplete neverComplete
+  pub idle-arrival : Wrong IdleArrival idle
+  pub later-pretend : Wrong LaterPretend laterPretend
+  pub invented-totals : Wrong InventedTotals uncounted
+  pub try-echoes : Wrong TryEchoes tryEchoes
+  pub odd-tried : Wrong (λ M. OddRefused M TryFmt) oddTried
+  pub odd-set : Wrong (λ M. OddRefused M SFmt) oddSet
+  pub left-raised : Wrong LeftRaised leftRaised
+  pub failed-counted : Wrong FailedCounted failedCounted
+  pub stored-numbered : Wrong StoredNumbered storedNumbered
+  pub youngest-first : Wrong YoungestFirst youngestFirst

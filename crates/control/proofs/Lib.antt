@@ -1,4 +1,0 @@
-pub mod Search
-pub mod Found
-pub mod Opening
-pub mod Settings

@@ -1,2 +1,0 @@
-pub mod Film
-pub mod Opening

@@ -1,0 +1,62 @@
+// S_FMT and TRY_FMT. Each takes an argument of the length that its word says, and answers any other as far as it reaches.
+ghost use mathlib.Core.Path.{_≡_};
+ghost use mathlib.Core.List.{List};
+ghost use Prim.Native.Nat.{ℕ};
+ghost use lib.Seq.{sets};
+ghost use Rattle.negotiation_rules.specs.Negotiation.{negotiated, askedFormat};
+ghost use Rattle.stream_words.specs.Stream.{Stream};
+ghost use Rattle.device_state.specs.Setup.{setupIn};
+ghost use Rattle.device_state.specs.State.{State, stateOf};
+ghost use Rattle.device_state.specs.Answers.{answer};
+ghost use Rattle.negotiation_calls.specs.Negotiations.{toldFormat, pictureOf, sFmtOf, tryFmtOf};
+use device_state::SetupWords;
+use format_rules::Format;
+use ioctl_table::Refusal;
+
+// A format with its line and image size.
+struct Picture {
+    format: Format,
+    line: u32,
+    size: u32,
+}
+
+// The format that an argument asks for, as near as the sheet allows: it is told in the argument.
+fn answered(sheet: &[u8], argument: &mut [u8]) -> Picture
+    ensures { λ r. ⌜ r ≡ pictureOf (now (sheet .entry)) (negotiated (now (sheet .entry)) (askedFormat (now (argument .entry)))) ⌝ }
+    ensures { λ _. ⌜ now (argument .exit) ≡ sets (now (argument .entry)) 0 (toldFormat (now (sheet .entry)) (negotiated (now (sheet .entry)) (askedFormat (now (argument .entry))))) ⌝ }
+{
+    let format = negotiation_rules::negotiate(sheet, negotiation_rules::asked(argument));
+    let alignment = sheet_geometry::line_alignment(sheet);
+    let line = format_rules::bytes_per_line(format, alignment);
+    let size = format_rules::image_size(format, alignment);
+    negotiation_rules::put_format(argument, 1, format, line, size);
+    Picture { format, line, size }
+}
+
+// Another format, while there are no buffers; so many are granted.
+pub fn s_fmt(sheet: &[u8], setup: &mut SetupWords, granted: u64, argument: &mut [u8]) -> u32
+    ensures { λ r. ⌜ ((v : List ℕ) (t : Stream) → t .queues .granted ≡ granted → answer r (stateOf (setupIn (now (setup .exit))) v t) (now (argument .exit))
+        ≡ sFmtOf (now (sheet .entry)) (stateOf (setupIn (now (setup .entry))) v t) (now (argument .entry))) ⌝ }
+{
+    if wire_read::word_at(argument, 0) != 1 {
+        return ioctl_table::errno(Refusal::WrongType);
+    }
+    if granted != 0 {
+        return ioctl_table::errno(Refusal::BuffersExist);
+    }
+    let p = answered(sheet, argument);
+    let f = p.format;
+    device_setup::keep_format(setup, f, p.line, p.size);
+    0
+}
+
+// The format that S_FMT would set.
+pub fn try_fmt(sheet: &[u8], argument: &mut [u8]) -> u32
+    ensures { λ r. ⌜ ((d : State) → answer r d (now (argument .exit)) ≡ tryFmtOf (now (sheet .entry)) d (now (argument .entry))) ⌝ }
+{
+    if wire_read::word_at(argument, 0) != 1 {
+        return ioctl_table::errno(Refusal::WrongType);
+    }
+    answered(sheet, argument);
+    0
+}

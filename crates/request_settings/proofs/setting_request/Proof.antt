@@ -1,0 +1,267 @@
+-- Each arm as its call promises. Assumes nothing.
+use mathlib.Core.List.{[], _∷_}
+use mathlib.Core.Path.{refl}
+use denote.Ref.{now}
+use Rattle.device_state.specs.Setup.{setupIn}
+use Rattle.device_state.specs.State.{stateOf}
+use Rattle.ioctl_table.specs.declared.table.Call.the-variants.{Querycap, EnumFmt, GFmt, SFmt, TryFmt, Cropcap, GCrop, SCrop}
+use Rattle.request_topics.proofs.Cases.{arm-length, arm-called, topic-other, elsewhere}
+use borrow.Author.Needs.{needs}
+use Rattle.request_settings.proofs.setting_request.Statement.{statement}
+use Rattle.request_settings.proofs.setting_request.Tie as tie
+
+enum-told : tie.Need-enum-told
+enum-told c = search needs
+
+errno-requires : tie.Need-errno-requires
+errno-requires c κs = search needs
+
+returns : tie.Need-returns
+returns c v t h =
+    let a = c .before .before .before .before .before .before .args in
+    let d = stateOf (setupIn (now (a .setup))) v t in
+    arm-length Querycap (now (a .sheet)) d (now (a .argument)) (c .before .before .enum-told .given .1) refl (c .before .if1 .taken) (c .errno .ensures)
+
+querycap-requires : tie.Need-querycap-requires
+querycap-requires c κs = search needs
+
+enum-told-2 : tie.Need-enum-told-2
+enum-told-2 c = search needs
+
+errno-requires-2 : tie.Need-errno-requires-2
+errno-requires-2 c κs = search needs
+
+returns-2 : tie.Need-returns-2
+returns-2 c v t h =
+    let a = c .before .before .before .before .before .before .args in
+    let d = stateOf (setupIn (now (a .setup))) v t in
+    arm-length EnumFmt (now (a .sheet)) d (now (a .argument)) (c .before .before .enum-told2 .given .1) refl (c .before .if2 .taken) (c .errno2 .ensures)
+
+enum-fmt-requires : tie.Need-enum-fmt-requires
+enum-fmt-requires c κs = search needs
+
+enum-told-3 : tie.Need-enum-told-3
+enum-told-3 c = search needs
+
+errno-requires-3 : tie.Need-errno-requires-3
+errno-requires-3 c κs = search needs
+
+returns-3 : tie.Need-returns-3
+returns-3 c v t h =
+    let a = c .before .before .before .before .before .before .args in
+    let d = stateOf (setupIn (now (a .setup))) v t in
+    arm-length GFmt (now (a .sheet)) d (now (a .argument)) (c .before .before .enum-told3 .given .1) refl (c .before .if3 .taken) (c .errno3 .ensures)
+
+g-fmt-requires : tie.Need-g-fmt-requires
+g-fmt-requires c κs = search needs
+
+enum-told-4 : tie.Need-enum-told-4
+enum-told-4 c = search needs
+
+errno-requires-4 : tie.Need-errno-requires-4
+errno-requires-4 c κs = search needs
+
+returns-4 : tie.Need-returns-4
+returns-4 c v t h =
+    let a = c .before .before .before .before .before .before .args in
+    let d = stateOf (setupIn (now (a .setup))) v t in
+    arm-length SFmt (now (a .sheet)) d (now (a .argument)) (c .before .before .enum-told4 .given .1) refl (c .before .if4 .taken) (c .errno4 .ensures)
+
+s-fmt-requires : tie.Need-s-fmt-requires
+s-fmt-requires c κs = search needs
+
+enum-told-5 : tie.Need-enum-told-5
+enum-told-5 c = search needs
+
+errno-requires-5 : tie.Need-errno-requires-5
+errno-requires-5 c κs = search needs
+
+returns-5 : tie.Need-returns-5
+returns-5 c v t h =
+    let a = c .before .before .before .before .before .before .args in
+    let d = stateOf (setupIn (now (a .setup))) v t in
+    arm-length TryFmt (now (a .sheet)) d (now (a .argument)) (c .before .before .enum-told5 .given .1) refl (c .before .if5 .taken) (c .errno5 .ensures)
+
+try-fmt-requires : tie.Need-try-fmt-requires
+try-fmt-requires c κs = search needs
+
+enum-told-6 : tie.Need-enum-told-6
+enum-told-6 c = search needs
+
+errno-requires-6 : tie.Need-errno-requires-6
+errno-requires-6 c κs = search needs
+
+returns-6 : tie.Need-returns-6
+returns-6 c v t h =
+    let a = c .before .before .before .before .before .before .args in
+    let d = stateOf (setupIn (now (a .setup))) v t in
+    arm-length Cropcap (now (a .sheet)) d (now (a .argument)) (c .before .before .enum-told6 .given .1) refl (c .before .if6 .taken) (c .errno6 .ensures)
+
+cropcap-requires : tie.Need-cropcap-requires
+cropcap-requires c κs = search needs
+
+enum-told-7 : tie.Need-enum-told-7
+enum-told-7 c = search needs
+
+errno-requires-7 : tie.Need-errno-requires-7
+errno-requires-7 c κs = search needs
+
+returns-7 : tie.Need-returns-7
+returns-7 c v t h =
+    let a = c .before .before .before .before .before .before .args in
+    let d = stateOf (setupIn (now (a .setup))) v t in
+    arm-length GCrop (now (a .sheet)) d (now (a .argument)) (c .before .before .enum-told7 .given .1) refl (c .before .if7 .taken) (c .errno7 .ensures)
+
+g-crop-requires : tie.Need-g-crop-requires
+g-crop-requires c κs = search needs
+
+enum-told-8 : tie.Need-enum-told-8
+enum-told-8 c = search needs
+
+errno-requires-8 : tie.Need-errno-requires-8
+errno-requires-8 c κs = search needs
+
+returns-8 : tie.Need-returns-8
+returns-8 c v t h =
+    let a = c .before .before .before .before .before .before .args in
+    let d = stateOf (setupIn (now (a .setup))) v t in
+    arm-length SCrop (now (a .sheet)) d (now (a .argument)) (c .before .before .enum-told8 .given .1) refl (c .before .if8 .taken) (c .errno8 .ensures)
+
+s-crop-requires : tie.Need-s-crop-requires
+s-crop-requires c κs = search needs
+
+errno-requires-9 : tie.Need-errno-requires-9
+errno-requires-9 c κs = search needs
+
+same-length : tie.Need-same-length
+same-length c = search needs
+
+returns-9 : tie.Need-returns-9
+returns-9 c v t h =
+    let a = c .before .before .before .before .before .before .before .before .before .args in
+    let d = stateOf (setupIn (now (a .setup))) v t in
+    arm-called Querycap (now (a .sheet)) d (now (a .argument)) (c .before .before .before .before .before .enum-told .given .1) refl (c .before .before .before .before .if1 .left) (c .before .before .querycap .ensures d)
+
+same-length-2 : tie.Need-same-length-2
+same-length-2 c = search needs
+
+returns-10 : tie.Need-returns-10
+returns-10 c v t h =
+    let a = c .before .before .before .before .before .before .before .before .before .args in
+    let d = stateOf (setupIn (now (a .setup))) v t in
+    arm-called EnumFmt (now (a .sheet)) d (now (a .argument)) (c .before .before .before .before .before .enum-told2 .given .1) refl (c .before .before .before .before .if2 .left) (c .before .before .enum-fmt .ensures d)
+
+same-length-3 : tie.Need-same-length-3
+same-length-3 c = search needs
+
+returns-11 : tie.Need-returns-11
+returns-11 c v t h =
+    let a = c .before .before .before .before .before .before .before .before .before .before .args in
+    let d = stateOf (setupIn (now (a .setup))) v t in
+    arm-called GFmt (now (a .sheet)) d (now (a .argument)) (c .before .before .before .before .before .before .enum-told3 .given .1) refl (c .before .before .before .before .before .if3 .left) (c .before .before .g-fmt .ensures v t)
+
+same-length-4 : tie.Need-same-length-4
+same-length-4 c = search needs
+
+returns-12 : tie.Need-returns-12
+returns-12 c v t h =
+    let a = c .before .before .before .before .before .before .before .before .before .before .args in
+    let d = stateOf (setupIn (now (a .setup))) v t in
+    arm-called SFmt (now (a .sheet)) d (now (a .argument)) (c .before .before .before .before .before .before .enum-told4 .given .1) refl (c .before .before .before .before .before .if4 .left) (c .before .before .s-fmt .ensures v t h)
+
+same-length-5 : tie.Need-same-length-5
+same-length-5 c = search needs
+
+returns-13 : tie.Need-returns-13
+returns-13 c v t h =
+    let a = c .before .before .before .before .before .before .before .before .before .args in
+    let d = stateOf (setupIn (now (a .setup))) v t in
+    arm-called TryFmt (now (a .sheet)) d (now (a .argument)) (c .before .before .before .before .before .enum-told5 .given .1) refl (c .before .before .before .before .if5 .left) (c .before .before .try-fmt .ensures d)
+
+same-length-6 : tie.Need-same-length-6
+same-length-6 c = search needs
+
+returns-14 : tie.Need-returns-14
+returns-14 c v t h =
+    let a = c .before .before .before .before .before .before .before .before .before .args in
+    let d = stateOf (setupIn (now (a .setup))) v t in
+    arm-called Cropcap (now (a .sheet)) d (now (a .argument)) (c .before .before .before .before .before .enum-told6 .given .1) refl (c .before .before .before .before .if6 .left) (c .before .before .cropcap .ensures d)
+
+same-length-7 : tie.Need-same-length-7
+same-length-7 c = search needs
+
+returns-15 : tie.Need-returns-15
+returns-15 c v t h =
+    let a = c .before .before .before .before .before .before .before .before .before .before .args in
+    let d = stateOf (setupIn (now (a .setup))) v t in
+    arm-called GCrop (now (a .sheet)) d (now (a .argument)) (c .before .before .before .before .before .before .enum-told7 .given .1) refl (c .before .before .before .before .before .if7 .left) (c .before .before .g-crop .ensures v t)
+
+same-length-8 : tie.Need-same-length-8
+same-length-8 c = search needs
+
+returns-16 : tie.Need-returns-16
+returns-16 c v t h =
+    let a = c .before .before .before .before .before .before .before .before .args in
+    let d = stateOf (setupIn (now (a .setup))) v t in
+    arm-called SCrop (now (a .sheet)) d (now (a .argument)) (c .before .before .before .before .enum-told8 .given .1) refl (c .before .before .before .if8 .left) (c .s-crop .ensures v t)
+
+returns-17 : tie.Need-returns-17
+returns-17 c v t h =
+    let a = c .before .before .before .before .args in
+    let d = stateOf (setupIn (now (a .setup))) v t in
+    topic-other 1 (a .call) (now (a .sheet)) d (now (a .argument)) (elsewhere 1 (0 ∷ 6 ∷ 7 ∷ 8 ∷ 9 ∷ 10 ∷ 11 ∷ 12 ∷ 13 ∷ 14 ∷ []) tt (a .call) (c .before .match .keys9)) (c .errno9 .ensures)
+
+pub setting-request-spec : {M : Type 1} → statement M
+setting-request-spec =
+    tie.close
+    (tie.spec
+    enum-told
+    errno-requires
+    returns
+    querycap-requires
+    enum-told-2
+    errno-requires-2
+    returns-2
+    enum-fmt-requires
+    enum-told-3
+    errno-requires-3
+    returns-3
+    g-fmt-requires
+    enum-told-4
+    errno-requires-4
+    returns-4
+    s-fmt-requires
+    enum-told-5
+    errno-requires-5
+    returns-5
+    try-fmt-requires
+    enum-told-6
+    errno-requires-6
+    returns-6
+    cropcap-requires
+    enum-told-7
+    errno-requires-7
+    returns-7
+    g-crop-requires
+    enum-told-8
+    errno-requires-8
+    returns-8
+    s-crop-requires
+    errno-requires-9
+    same-length
+    returns-9
+    same-length-2
+    returns-10
+    same-length-3
+    returns-11
+    same-length-4
+    returns-12
+    same-length-5
+    returns-13
+    same-length-6
+    returns-14
+    same-length-7
+    returns-15
+    same-length-8
+    returns-16
+    returns-17)

@@ -1,0 +1,77 @@
+// The requests about the device, its formats and its crop: the argument's length is tested, and the call goes to its handler.
+ghost use mathlib.Core.Path.{_≡_};
+ghost use mathlib.Core.List.{List};
+ghost use Prim.Native.Nat.{ℕ};
+ghost use Rattle.stream_words.specs.Stream.{Stream};
+ghost use Rattle.device_state.specs.Setup.{setupIn};
+ghost use Rattle.device_state.specs.State.{stateOf};
+ghost use Rattle.device_state.specs.Answers.{answer};
+ghost use Rattle.request_topics.specs.Request.{onTopic};
+use device_state::SetupWords;
+use ioctl_table::Call;
+use ioctl_table::Refusal;
+
+// A call about the device, its formats and its crop, with any argument; so many buffers are granted. Each arm tests the length against a
+// number of its own, for speed: the compiler then knows it in all that the arm calls.
+pub fn setting_request(
+    call: Call,
+    sheet: &[u8],
+    setup: &mut SetupWords,
+    granted: u64,
+    argument: &mut [u8],
+) -> u32
+    ensures { λ r. ⌜ ((v : List ℕ) (t : Stream) → t .queues .granted ≡ granted → answer r (stateOf (setupIn (now (setup .exit))) v t) (now (argument .exit))
+        ≡ onTopic 1 call (now (sheet .entry)) (stateOf (setupIn (now (setup .entry))) v t) (now (argument .entry))) ⌝ }
+{
+    match call {
+        Call::Querycap => {
+            if argument.len() != 104 {
+                return ioctl_table::errno(Refusal::ArgumentLength);
+            }
+            format_calls::querycap(sheet, argument)
+        }
+        Call::EnumFmt => {
+            if argument.len() != 64 {
+                return ioctl_table::errno(Refusal::ArgumentLength);
+            }
+            format_calls::enum_fmt(sheet, argument)
+        }
+        Call::GFmt => {
+            if argument.len() != 204 {
+                return ioctl_table::errno(Refusal::ArgumentLength);
+            }
+            format_calls::g_fmt(setup, argument)
+        }
+        Call::SFmt => {
+            if argument.len() != 204 {
+                return ioctl_table::errno(Refusal::ArgumentLength);
+            }
+            negotiation_calls::s_fmt(sheet, setup, granted, argument)
+        }
+        Call::TryFmt => {
+            if argument.len() != 204 {
+                return ioctl_table::errno(Refusal::ArgumentLength);
+            }
+            negotiation_calls::try_fmt(sheet, argument)
+        }
+        Call::Cropcap => {
+            if argument.len() != 44 {
+                return ioctl_table::errno(Refusal::ArgumentLength);
+            }
+            crop_calls::cropcap(sheet, argument)
+        }
+        Call::GCrop => {
+            if argument.len() != 20 {
+                return ioctl_table::errno(Refusal::ArgumentLength);
+            }
+            crop_calls::g_crop(setup, argument)
+        }
+        Call::SCrop => {
+            if argument.len() != 20 {
+                return ioctl_table::errno(Refusal::ArgumentLength);
+            }
+            crop_calls::s_crop(sheet, setup, argument)
+        }
+        _ => ioctl_table::errno(Refusal::UnknownWord),
+    }
+}

@@ -1,0 +1,83 @@
+// The type that an argument names is tested, and the call goes to the stream of that type: there is one, of pictures.
+ghost use mathlib.Core.Path.{_≡_};
+ghost use mathlib.Core.List.{List};
+ghost use Prim.Native.Nat.{ℕ};
+ghost use Rattle.buffer_calls.specs.Buffers.{reqbufsOf, querybufOf};
+ghost use Rattle.queue_calls.specs.Queues.{qbufOf, dqbufOf};
+ghost use Rattle.run_calls.specs.Runs.{streamonOf, streamoffOf};
+ghost use Rattle.stream_words.specs.Words.{streamIn};
+ghost use Rattle.device_state.specs.Setup.{Setup};
+ghost use Rattle.device_state.specs.State.{stateOf};
+ghost use Rattle.device_state.specs.Answers.{answer};
+ghost use Rattle.request_topics.specs.Request.{streamCall};
+use ioctl_table::Refusal;
+use stream_words::Words;
+
+// The type of pictures: video capture.
+const PICTURES: u32 = 1;
+
+// Buffers are asked for, or freed.
+pub fn reqbufs(size: u32, video: &mut Words, argument: &mut [u8]) -> u32
+    ensures { λ r. ⌜ ((v : List ℕ) (p : Setup) → p .size ≡ size → answer r (stateOf p v (streamIn (now (video .exit)))) (now (argument .exit))
+        ≡ streamCall reqbufsOf 4 (stateOf p v (streamIn (now (video .entry)))) (now (argument .entry))) ⌝ }
+{
+    if wire_read::word_at(argument, 4) != PICTURES {
+        return ioctl_table::errno(Refusal::WrongType);
+    }
+    buffer_calls::reqbufs(video, PICTURES, size, argument)
+}
+
+// The status of a buffer.
+pub fn querybuf(size: u32, video: &Words, argument: &mut [u8]) -> u32
+    ensures { λ r. ⌜ ((v : List ℕ) (p : Setup) → p .size ≡ size → answer r (stateOf p v (streamIn (now (video .entry)))) (now (argument .exit))
+        ≡ streamCall querybufOf 4 (stateOf p v (streamIn (now (video .entry)))) (now (argument .entry))) ⌝ }
+{
+    if wire_read::word_at(argument, 4) != PICTURES {
+        return ioctl_table::errno(Refusal::WrongType);
+    }
+    buffer_calls::querybuf(video, PICTURES, size, argument)
+}
+
+// A buffer is handed in.
+pub fn qbuf(size: u32, video: &mut Words, argument: &mut [u8]) -> u32
+    ensures { λ r. ⌜ ((v : List ℕ) (p : Setup) → p .size ≡ size → answer r (stateOf p v (streamIn (now (video .exit)))) (now (argument .exit))
+        ≡ streamCall qbufOf 4 (stateOf p v (streamIn (now (video .entry)))) (now (argument .entry))) ⌝ }
+{
+    if wire_read::word_at(argument, 4) != PICTURES {
+        return ioctl_table::errno(Refusal::WrongType);
+    }
+    queue_calls::qbuf(video, PICTURES, size, argument)
+}
+
+// The oldest filled buffer is handed over.
+pub fn dqbuf(size: u32, video: &mut Words, argument: &mut [u8]) -> u32
+    ensures { λ r. ⌜ ((v : List ℕ) (p : Setup) → p .size ≡ size → answer r (stateOf p v (streamIn (now (video .exit)))) (now (argument .exit))
+        ≡ streamCall dqbufOf 4 (stateOf p v (streamIn (now (video .entry)))) (now (argument .entry))) ⌝ }
+{
+    if wire_read::word_at(argument, 4) != PICTURES {
+        return ioctl_table::errno(Refusal::WrongType);
+    }
+    queue_calls::dqbuf(video, PICTURES, size, argument)
+}
+
+// A run begins.
+pub fn streamon(video: &mut Words, argument: &[u8]) -> u32
+    ensures { λ r. ⌜ ((v : List ℕ) (p : Setup) → answer r (stateOf p v (streamIn (now (video .exit)))) (now (argument .entry))
+        ≡ streamCall streamonOf 0 (stateOf p v (streamIn (now (video .entry)))) (now (argument .entry))) ⌝ }
+{
+    if wire_read::word_at(argument, 0) != PICTURES {
+        return ioctl_table::errno(Refusal::WrongType);
+    }
+    run_calls::streamon(video)
+}
+
+// The run ends, if one is on, and the queues are emptied.
+pub fn streamoff(video: &mut Words, argument: &[u8]) -> u32
+    ensures { λ r. ⌜ ((v : List ℕ) (p : Setup) → answer r (stateOf p v (streamIn (now (video .exit)))) (now (argument .entry))
+        ≡ streamCall streamoffOf 0 (stateOf p v (streamIn (now (video .entry)))) (now (argument .entry))) ⌝ }
+{
+    if wire_read::word_at(argument, 0) != PICTURES {
+        return ioctl_table::errno(Refusal::WrongType);
+    }
+    run_calls::streamoff(video)
+}

@@ -1,0 +1,26 @@
+// A sheet's formats and controls, field by field.
+mod controls;
+mod formats;
+
+pub use controls::control_fields;
+pub use controls::control_id;
+pub use formats::format_code;
+pub use formats::format_description;
+
+// The four numbers of a control: its values go from minimum to maximum by step, and initial is the default.
+#[repr(C)]
+pub struct Limits {
+    pub minimum: i32,
+    pub maximum: i32,
+    pub step: i32,
+    pub initial: i32,
+}
+
+// What v4l2_queryctrl says of a control, its name left out; kind is the type.
+#[repr(C)]
+pub struct Control {
+    pub id: u32,
+    pub kind: u32,
+    pub flags: u32,
+    pub limits: Limits,
+}

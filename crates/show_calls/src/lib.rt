@@ -1,0 +1,18 @@
+// What a client asks of the bench's device, event by event, and how that is said. An event has a letter and up to two numbers:
+//   B opens a device with the bench sheet, D with a damaged sheet, U with one cut short; the number is the length of the picture memory
+//   c QUERYCAP, e ENUM_FMT, g G_FMT; f S_FMT of YUYV, P of YU12, N of NV12; t TRY_FMT of YUYV, T of YU12
+//   r REQBUFS, b QUERYBUF, q QBUF, d DQBUF, s STREAMON, o STREAMOFF
+//   G G_CTRL, S S_CTRL, Q QUERYCTRL, C CROPCAP, k G_CROP, K S_CROP with left and width
+//   u a word that is not known, l an argument one byte short, y a wrong type
+//   w a whole frame arrives, h one that is a byte short, with seconds and microseconds; v the verdict
+//   m a frame of so many bytes is made; p a plane of a frame, with the bytes of the frame and the number of the plane
+//   # what a client has counted that takes every dequeue for a frame
+// No contract here says more than that each function is safe and ends.
+mod asking;
+mod saying;
+
+pub use asking::argument;
+pub use asking::lent;
+pub use asking::word;
+pub use saying::answered;
+pub use saying::asked;

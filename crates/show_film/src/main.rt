@@ -1,0 +1,54 @@
+// The whole capture device on the bench sheet: each call, what it is answered, and what can be said of the film. What is printed of
+// an answer is read from the bytes of its argument. The crate `show_calls` has the letter of each event and how it is said, the crate
+// `show_lists` how lists of events are read.
+mod calls;
+mod events;
+
+// The picture memory, as long as that of the bench, and the space that each frame is made in.
+type Memory = [u8; 1048576];
+
+type Space = [u8; 143360];
+
+// Both are lent with their lengths in their types: an array just made is too long for the checker to count.
+fn lists(memory: &mut Memory, space: &mut Space) {
+    events::table(
+        memory,
+        space,
+        b"1. Opening\n\
+            1048576B v 1048576D c o 1x0w v 1048576U v 1073741824B 1x0w v 1073741825B c o 1x0w v\n\
+        2. Negotiation\n\
+            1048576B c 0e 1e 2e g 300x225t g 300x225f g 301x121P 296x479f \
+            0x0T 4294967295x4294967295t 300x225N 2r 640x480P 640x480T g 0r 640x480P u l y g\n\
+        3a. Every frame is stored and handed over\n\
+            1048576B 300x225f 10r 0q 1q s v 1x0w d 0q 2x40000w 3x80000w d d d o v\n\
+        3b. One frame is damaged, the others are handed over\n\
+            1048576B 300x225f 10r 0q 1q s 1x0h 2x40000w 3x80000w d d d o v\n\
+        3c. A frame is stored, and the run stopped before anyone took it\n\
+            1048576B 300x225f 10r 0q 1q s 1x0w 0b o v 0b d 2x40000w v\n\
+        3d. No frame arrives whole, and a client counts failed dequeues\n\
+            1048576B 300x225f 10r 0q 1q s 1x0h d 2x40000h d 3x80000h d 4x120000h d 5x160000h d # o v\n\
+        4a. One frame stored and handed over\n\
+            1048576B 300x225f 10r 0q 1q s 1x0w d o v\n\
+        4b. One frame stored, then stopped\n\
+            1048576B 300x225f 10r 0q 1q s 1x0w o v\n\
+        4c. A run of no arrivals, stopped\n\
+            1048576B 300x225f 10r 0q 1q s o v\n\
+        4d. A frame one byte short, then a whole one\n\
+            1048576B 300x225f 10r 0q 1q s 1x0h 2x40000w d o v\n\
+        4e. Contrast\n\
+            1048576B 9963777Q 2147483648Q 2157447425Q 9963777G \
+            9963777x11S 9963777x-8S 9963777G 9963777x0S 9963777G 9963778G\n\
+        4f. Crop\n\
+            1048576B C 100x608K k -5x608K k -2147483648x608K k 100x0K k\n\
+        4g. Buffers and planes\n\
+            1048576B 304x224f 10r 6b 7b 0r 143360m 143360x0p 143360x1p 143360x2p 143360x3p \
+            304x224P 10r 8b 9b 107520m 107520x0p 107520x1p 107520x2p 107520x3p \
+            143360m 143360x0p 143360x1p 143360x2p 143360x3p",
+    );
+}
+
+fn main() {
+    let mut memory = [0u8; 1048576];
+    let mut space = [0u8; 143360];
+    lists(&mut memory, &mut space);
+}

@@ -1,0 +1,42 @@
+// How an event is said, from the words that are written for it: a line for the letter of each event, and one for each letter that the
+// module `answers` gives to an answer.
+
+pub(crate) fn told(letter: u8, a: &[u8]) {
+    show_lines::told(
+        b"r REQBUFS %d\x00\n\
+        b QUERYBUF %d\x00\n\
+        q QBUF %d\x00\n\
+        d DQBUF\n\
+        s STREAMON\n\
+        t STREAMOFF\n\
+        v verdict: \n\
+        h record: \n\
+        w arrival\n\
+        u arrival one byte short\n\
+        o arrival one byte long\n\
+        p arrival one byte short, called whole\n\
+        g arrival one byte long, called whole\n\
+        m arrival at %i\x00 microseconds\n\
+        l with a memory of 100, arrival\n\
+        z size %d\x00;\n\
+        c clock %d\x00;\n\
+        a accepted 4294967293;\n\
+        0: refused %d\x00;\n\
+        1: ignored;\n\
+        2: damaged;\n\
+        3: dropped;\n\
+        4: stored %d\x04 number %d\x00;\n\
+        5RUNNING;\n\
+        6BLANK;\n\
+        7GAPS;\n\
+        8COMPLETE;\n\
+        N: %d\x00;\n\
+        G: granted %d\x00;\n\
+        I: returned %d\x00 number %d\x0c used %d\x04 time %t\x10 intact;\n\
+        S: returned %d\x00 number %d\x0c used %d\x04 time %t\x10 SPOILT;\n\
+        B: flags %d\x08 used %d\x04 number %d\x0c time %t\x10 offset %d\x18 length %d\x1c;\n\
+        Haccepted %d\x00 handed %d\x04 damaged %d\x08 dropped %d\x0c discarded %d\x10;\n",
+        letter,
+        a,
+    );
+}

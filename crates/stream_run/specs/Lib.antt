@@ -1,0 +1,3 @@
+pub mod Switches
+pub mod Numbers
+pub mod Stream

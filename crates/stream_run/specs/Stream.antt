@@ -1,0 +1,47 @@
+-- One stream: at opening, when a run begins, when it ends.
+use Prim.Native.Nat.{ℕ, _+_, _%_, _^_}
+use mathlib.Core.Bool.{Bool, cond, not}
+use lib.Dec.{eqb}
+use lib.ListN.{length}
+use Rattle.stream_words.specs.Stream.{Run, Stream}
+use Rattle.stream_words.specs.Moves.{emptied}
+
+-- one more in a count of 64 bits
+abbrev pub oneMore : ℕ → ℕ
+oneMore n = (n + 1) % 2 ^ 64
+
+-- whether a run is on
+abbrev pub streaming : Stream → Bool
+streaming s = not (eqb (s .streaming) 0)
+
+-- a record with no arrivals in it
+abbrev pub freshRun : ℕ → Run
+freshRun ran = record { ran = ran; accepted = 0; handed = 0; damaged = 0; dropped = 0; discarded = 0 }
+
+-- after opening: no buffers, no run
+unfoldable pub freshStream : ℕ → Stream
+freshStream n = record { length = n; streaming = 0; run = freshRun 0; queues = emptied 0 }
+
+-- a run begins, with a record of its own
+unfoldable pub started : Stream → Stream
+started s = record { length = s .length; streaming = 1; run = freshRun 1; queues = s .queues }
+
+-- what a stop leaves of the record: it discards what is outgoing
+abbrev pub stoppedRun : Run → ℕ → Run
+stoppedRun r done =
+    record { ran = r .ran; accepted = r .accepted; handed = r .handed; damaged = r .damaged; dropped = r .dropped; discarded = done }
+
+-- a run ends, if one is on; n buffers are left, all dequeued
+unfoldable pub stopped : Stream → ℕ → Stream
+stopped s n =
+    record {
+      length = s .length;
+      streaming = 0;
+      run = cond (eqb (s .streaming) 0) (s .run) (stoppedRun (s .run) (length (s .queues .outgoing)));
+      queues = emptied n;
+    }
+
+-- one more arrival of the run was handed over
+abbrev pub handedRun : Run → Run
+handedRun r =
+    record { ran = r .ran; accepted = r .accepted; handed = oneMore (r .handed); damaged = r .damaged; dropped = r .dropped; discarded = r .discarded }

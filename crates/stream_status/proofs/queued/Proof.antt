@@ -1,0 +1,27 @@
+-- Each way of the test. Assumes nothing.
+use Rattle.stream_status.specs.Buffer.{queuedOf}
+use borrow.Author.Needs.{needs}
+use Rattle.stream_status.proofs.queued.Statement.{statement}
+use Rattle.stream_status.proofs.queued.Tie as tie
+
+no-frame-requires : tie.Need-no-frame-requires
+no-frame-requires c κs = search needs
+
+described-requires : tie.Need-described-requires
+described-requires c κs = search needs
+
+returns : tie.Need-returns
+unfolding queuedOf
+returns c = rw (c .described .ensures, c .before .before .no-frame .ensures, c .before .if1 .taken)
+
+described-requires-2 : tie.Need-described-requires-2
+described-requires-2 c κs = search needs
+
+returns-2 : tie.Need-returns-2
+unfolding queuedOf
+returns-2 c = rw (c .described2 .ensures, c .before .before .no-frame .ensures, c .before .if1 .left)
+
+pub queued-spec : {M : Type 1} → statement M
+queued-spec =
+    tie.close
+    (tie.spec no-frame-requires described-requires returns described-requires-2 returns-2)

@@ -1,0 +1,5 @@
+pub mod Kept
+pub mod Record
+pub mod Stores
+pub mod Tabs
+pub mod Views

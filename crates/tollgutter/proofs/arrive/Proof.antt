@@ -1,0 +1,30 @@
+-- The time from its bits, then what the device promises; the answer as its numbers. Assumes nothing.
+use mathlib.Core.Path.{_∙_, ap}
+use Rattle.arrival_replies.specs.Answer.{toldOf}
+use Rattle.device_film.specs.Film.{Taken}
+use borrow.Author.Needs.{needs}
+use Rattle.tollgutter.proofs.arrive.Statement.{statement}
+use Rattle.tollgutter.proofs.arrive.Tie as tie
+
+time-of-requires : tie.Need-time-of-requires
+time-of-requires c κs = search needs
+
+arrive-requires : tie.Need-arrive-requires
+arrive-requires c κs = search needs
+
+answer-numbers-requires : tie.Need-answer-numbers-requires
+answer-numbers-requires c κs = search needs
+
+same-length : tie.Need-same-length
+same-length c = search needs
+
+returns : tie.Need-returns
+returns c v =
+    let t = c .before .before .before .before .before .before .time-of .ensures in
+    let e = c .before .before .before .arrive .ensures v in
+    (rw (← t) (c .answer-numbers .ensures ∙ ap (λ (z : Taken). toldOf (z .arrival)) (e .0)), rw (← t) (ap (λ (z : Taken). z .state) (e .0)), rw (← t) (e .1))
+
+pub arrive-spec : {M : Type 1} → statement M
+arrive-spec =
+    tie.close
+    (tie.spec time-of-requires arrive-requires answer-numbers-requires same-length returns)

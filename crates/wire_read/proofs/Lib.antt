@@ -1,0 +1,4 @@
+pub mod Lists
+pub mod Parts
+pub mod Stores
+pub mod Words

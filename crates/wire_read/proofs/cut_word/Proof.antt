@@ -1,0 +1,54 @@
+-- The word is joined of four bytes; past the end each counts as 0. Assumes nothing.
+use Rattle.wire_read.specs.Words.{wordAt}
+use borrow.Author.Needs.{needs}
+use Rattle.wire_read.proofs.cut_word.Statement.{statement}
+use Rattle.wire_read.proofs.cut_word.Tie as tie
+
+byte-at-requires : tie.Need-byte-at-requires
+byte-at-requires c κs = search needs
+
+add-byte-at : tie.Need-add-byte-at
+add-byte-at c = search needs
+
+byte-at-requires-2 : tie.Need-byte-at-requires-2
+byte-at-requires-2 c κs = search needs
+
+add-byte-at-2 : tie.Need-add-byte-at-2
+add-byte-at-2 c = search needs
+
+byte-at-requires-3 : tie.Need-byte-at-requires-3
+byte-at-requires-3 c κs = search needs
+
+add-byte-at-3 : tie.Need-add-byte-at-3
+add-byte-at-3 c = search needs
+
+byte-at-requires-4 : tie.Need-byte-at-requires-4
+byte-at-requires-4 c κs = search needs
+
+joined-requires : tie.Need-joined-requires
+joined-requires c κs = search needs
+
+returns : tie.Need-returns
+unfolding wordAt
+returns c =
+    rw (
+      c .joined .ensures,
+      c .before .byte-at4 .ensures,
+      c .before .before .byte-at3 .ensures,
+      c .before .before .before .byte-at2 .ensures,
+      c .before .before .before .before .byte-at .ensures,
+    )
+
+pub cut-word-spec : {M : Type 1} → statement M
+cut-word-spec =
+    tie.close
+    (tie.spec
+    byte-at-requires
+    add-byte-at
+    byte-at-requires-2
+    add-byte-at-2
+    byte-at-requires-3
+    add-byte-at-3
+    byte-at-requires-4
+    joined-requires
+    returns)
