@@ -1,5 +1,5 @@
-// The buffers of a stream: their slots in the memory lent, and the two queues that they pass through. All numbers of a stream stand in
-// one array, `Words`, that the caller lends, so that a call changes it in place and moves nothing. Every value of the words is answered.
+// The words of a stream, and the line of buffers that stands in them: its front part holds frames, the rest waits for one. All numbers of a
+// stream stand in one array, `Words`, that the caller lends, so that a call changes it in place and moves nothing. Every value is answered.
 ghost use mathlib.Core.Path.{_≡_};
 ghost use Rattle.stream_words.specs.Words.{low, timeOf, linedIn, holdingIn, placeIn, indexIn, frameIn};
 
