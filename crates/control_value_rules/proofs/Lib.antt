@@ -1,2 +1,3 @@
+mod ByPlace
 pub mod Opening
 pub mod Settings

@@ -22,15 +22,25 @@ fn called(
         ≡ checkedAnswer call (now (sheet .entry)) (stateIn (now (setup .entry)) (now (values .entry)) (now (video .entry))) (now (argument .entry)) ⌝ }
 {
     match request_topics::topic(call) {
-        1 => request_settings::setting_request(
+        request_topics::SETTINGS => request_settings::setting_request(
             call,
             sheet,
             setup,
             video[stream_words::GRANTED],
             argument,
         ),
-        2 => request_streams::stream_request(call, setup[device_state::SIZE], video, argument),
-        3 => request_controls::control_request(call, sheet, values, argument),
+        request_topics::STREAMS => request_streams::stream_request(
+            call,
+            setup[device_state::SIZE],
+            video,
+            argument,
+        ),
+        request_topics::CONTROLS => request_controls::control_request(
+            call,
+            sheet,
+            values,
+            argument,
+        ),
         _ => ioctl_table::errno(Refusal::UnknownWord),
     }
 }

@@ -21,7 +21,7 @@ pub const YV12: u32 = 0x32315659;
 pub const NV12: u32 = 0x3231564E;
 
 // Bytes of one pixel in the picture's first plane.
-pub fn bytes_per_pixel(code: u32) -> u32
+pub(crate) fn bytes_per_pixel(code: u32) -> u32
     ensures { λ r. ⌜ r ≡ bytesPerPixel code ⌝ }
 {
     if (code == RGB3) | (code == BGR3) {
@@ -45,7 +45,7 @@ pub fn colour_space(code: u32) -> u32
 }
 
 // Whether the code is one of the three with chroma of half the width and half the height.
-pub fn half_chroma(code: u32) -> bool
+pub(crate) fn half_chroma(code: u32) -> bool
     ensures { λ r. ⌜ r ≡ halfChroma code ⌝ }
 {
     (code == YU12) | (code == YV12) | (code == NV12)

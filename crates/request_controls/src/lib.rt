@@ -4,7 +4,7 @@ ghost use Rattle.stream_words.specs.Stream.{Stream};
 ghost use Rattle.device_state.specs.Setup.{Setup};
 ghost use Rattle.device_state.specs.State.{stateOf};
 ghost use Rattle.device_state.specs.Answers.{answer};
-ghost use Rattle.request_topics.specs.Request.{onTopic};
+ghost use Rattle.request_topics.specs.Request.{onTopic, controls};
 use control_value_rules::Values;
 use ioctl_table::Call;
 use ioctl_table::Refusal;
@@ -13,7 +13,7 @@ use ioctl_table::Refusal;
 // it in all that the arm calls.
 pub fn control_request(call: Call, sheet: &[u8], values: &mut Values, argument: &mut [u8]) -> u32
     ensures { λ r. ⌜ ((p : Setup) (t : Stream) → answer r (stateOf p (now (values .exit)) t) (now (argument .exit))
-        ≡ onTopic 3 call (now (sheet .entry)) (stateOf p (now (values .entry)) t) (now (argument .entry))) ⌝ }
+        ≡ onTopic controls call (now (sheet .entry)) (stateOf p (now (values .entry)) t) (now (argument .entry))) ⌝ }
 {
     match call {
         Call::GCtrl => {

@@ -6,7 +6,7 @@ ghost use Rattle.stream_words.specs.Stream.{Stream};
 ghost use Rattle.device_state.specs.Setup.{setupIn};
 ghost use Rattle.device_state.specs.State.{stateOf};
 ghost use Rattle.device_state.specs.Answers.{answer};
-ghost use Rattle.request_topics.specs.Request.{onTopic};
+ghost use Rattle.request_topics.specs.Request.{onTopic, settings};
 use device_state::SetupWords;
 use ioctl_table::Call;
 use ioctl_table::Refusal;
@@ -21,7 +21,7 @@ pub fn setting_request(
     argument: &mut [u8],
 ) -> u32
     ensures { λ r. ⌜ ((v : List ℕ) (t : Stream) → t .queues .granted ≡ granted → answer r (stateOf (setupIn (now (setup .exit))) v t) (now (argument .exit))
-        ≡ onTopic 1 call (now (sheet .entry)) (stateOf (setupIn (now (setup .entry))) v t) (now (argument .entry))) ⌝ }
+        ≡ onTopic settings call (now (sheet .entry)) (stateOf (setupIn (now (setup .entry))) v t) (now (argument .entry))) ⌝ }
 {
     match call {
         Call::Querycap => {

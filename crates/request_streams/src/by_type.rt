@@ -17,7 +17,7 @@ use stream_words::Words;
 const PICTURES: u32 = 1;
 
 // Buffers are asked for, or freed.
-pub fn reqbufs(size: u32, video: &mut Words, argument: &mut [u8]) -> u32
+pub(crate) fn reqbufs(size: u32, video: &mut Words, argument: &mut [u8]) -> u32
     ensures { λ r. ⌜ ((v : List ℕ) (p : Setup) → p .size ≡ size → answer r (stateOf p v (streamIn (now (video .exit)))) (now (argument .exit))
         ≡ streamCall reqbufsOf 4 (stateOf p v (streamIn (now (video .entry)))) (now (argument .entry))) ⌝ }
 {
@@ -28,7 +28,7 @@ pub fn reqbufs(size: u32, video: &mut Words, argument: &mut [u8]) -> u32
 }
 
 // The status of a buffer.
-pub fn querybuf(size: u32, video: &Words, argument: &mut [u8]) -> u32
+pub(crate) fn querybuf(size: u32, video: &Words, argument: &mut [u8]) -> u32
     ensures { λ r. ⌜ ((v : List ℕ) (p : Setup) → p .size ≡ size → answer r (stateOf p v (streamIn (now (video .entry)))) (now (argument .exit))
         ≡ streamCall querybufOf 4 (stateOf p v (streamIn (now (video .entry)))) (now (argument .entry))) ⌝ }
 {
@@ -39,7 +39,7 @@ pub fn querybuf(size: u32, video: &Words, argument: &mut [u8]) -> u32
 }
 
 // A buffer is handed in.
-pub fn qbuf(size: u32, video: &mut Words, argument: &mut [u8]) -> u32
+pub(crate) fn qbuf(size: u32, video: &mut Words, argument: &mut [u8]) -> u32
     ensures { λ r. ⌜ ((v : List ℕ) (p : Setup) → p .size ≡ size → answer r (stateOf p v (streamIn (now (video .exit)))) (now (argument .exit))
         ≡ streamCall qbufOf 4 (stateOf p v (streamIn (now (video .entry)))) (now (argument .entry))) ⌝ }
 {
@@ -50,7 +50,7 @@ pub fn qbuf(size: u32, video: &mut Words, argument: &mut [u8]) -> u32
 }
 
 // The oldest filled buffer is handed over.
-pub fn dqbuf(size: u32, video: &mut Words, argument: &mut [u8]) -> u32
+pub(crate) fn dqbuf(size: u32, video: &mut Words, argument: &mut [u8]) -> u32
     ensures { λ r. ⌜ ((v : List ℕ) (p : Setup) → p .size ≡ size → answer r (stateOf p v (streamIn (now (video .exit)))) (now (argument .exit))
         ≡ streamCall dqbufOf 4 (stateOf p v (streamIn (now (video .entry)))) (now (argument .entry))) ⌝ }
 {
@@ -61,7 +61,7 @@ pub fn dqbuf(size: u32, video: &mut Words, argument: &mut [u8]) -> u32
 }
 
 // A run begins.
-pub fn streamon(video: &mut Words, argument: &[u8]) -> u32
+pub(crate) fn streamon(video: &mut Words, argument: &[u8]) -> u32
     ensures { λ r. ⌜ ((v : List ℕ) (p : Setup) → answer r (stateOf p v (streamIn (now (video .exit)))) (now (argument .entry))
         ≡ streamCall streamonOf 0 (stateOf p v (streamIn (now (video .entry)))) (now (argument .entry))) ⌝ }
 {
@@ -72,7 +72,7 @@ pub fn streamon(video: &mut Words, argument: &[u8]) -> u32
 }
 
 // The run ends, if one is on, and the queues are emptied.
-pub fn streamoff(video: &mut Words, argument: &[u8]) -> u32
+pub(crate) fn streamoff(video: &mut Words, argument: &[u8]) -> u32
     ensures { λ r. ⌜ ((v : List ℕ) (p : Setup) → answer r (stateOf p v (streamIn (now (video .exit)))) (now (argument .entry))
         ≡ streamCall streamoffOf 0 (stateOf p v (streamIn (now (video .entry)))) (now (argument .entry))) ⌝ }
 {

@@ -7,7 +7,7 @@ ghost use Rattle.stream_words.specs.Words.{streamIn};
 ghost use Rattle.device_state.specs.Setup.{Setup};
 ghost use Rattle.device_state.specs.State.{stateOf};
 ghost use Rattle.device_state.specs.Answers.{answer};
-ghost use Rattle.request_topics.specs.Request.{onTopic};
+ghost use Rattle.request_topics.specs.Request.{onTopic, streams};
 
 mod by_type;
 
@@ -19,7 +19,7 @@ use stream_words::Words;
 // the compiler then knows it in all that the arm calls.
 pub fn stream_request(call: Call, size: u32, video: &mut Words, argument: &mut [u8]) -> u32
     ensures { λ r. ⌜ ((s v : List ℕ) (p : Setup) → p .size ≡ size → answer r (stateOf p v (streamIn (now (video .exit)))) (now (argument .exit))
-        ≡ onTopic 2 call s (stateOf p v (streamIn (now (video .entry)))) (now (argument .entry))) ⌝ }
+        ≡ onTopic streams call s (stateOf p v (streamIn (now (video .entry)))) (now (argument .entry))) ⌝ }
 {
     match call {
         Call::Reqbufs => {

@@ -63,26 +63,36 @@ requestAnswer s d w a =
     (cond (not (eqb (length a) (requestOf w .size))) (refused ArgumentLength d a)
     (callAnswer (requestOf w .call) s d a)))
 
--- what a call is about: 0 nothing, 1 the device with its formats and its crop, 2 the stream, 3 the controls
+-- the topics: the device with its formats and its crop; the stream; the controls
+abbrev pub settings : ℕ
+settings = 1
+
+abbrev pub streams : ℕ
+streams = 2
+
+abbrev pub controls : ℕ
+controls = 3
+
+-- what a call is about
 abbrev pub topicOf : Call → ℕ
 topicOf Unknown = 0
-topicOf Querycap = 1
-topicOf EnumFmt = 1
-topicOf GFmt = 1
-topicOf SFmt = 1
-topicOf TryFmt = 1
-topicOf Reqbufs = 2
-topicOf Querybuf = 2
-topicOf Qbuf = 2
-topicOf Dqbuf = 2
-topicOf Streamon = 2
-topicOf Streamoff = 2
-topicOf GCtrl = 3
-topicOf SCtrl = 3
-topicOf Queryctrl = 3
-topicOf Cropcap = 1
-topicOf GCrop = 1
-topicOf SCrop = 1
+topicOf Querycap = settings
+topicOf EnumFmt = settings
+topicOf GFmt = settings
+topicOf SFmt = settings
+topicOf TryFmt = settings
+topicOf Reqbufs = streams
+topicOf Querybuf = streams
+topicOf Qbuf = streams
+topicOf Dqbuf = streams
+topicOf Streamon = streams
+topicOf Streamoff = streams
+topicOf GCtrl = controls
+topicOf SCtrl = controls
+topicOf Queryctrl = controls
+topicOf Cropcap = settings
+topicOf GCrop = settings
+topicOf SCrop = settings
 
 -- what the calls about one topic answer with any argument; any other call is unknown there
 unfoldable pub onTopic : ℕ → Call → List ℕ → State → List ℕ → Answer

@@ -66,7 +66,7 @@ pub fn argument(c: u8, x: u32, n: u32) -> Words {
         b'S' => words(x, n, 0, 0, 0, 0),
         b'K' => words(1, x, 0, n, 400, 0),
         b'y' => words(2, 0, 0, 0, 0, 0),
-        b'G' | b'Q' | b'm' | b'p' | b'#' => words(n, x, 0, 0, 0, 0),
+        b'G' | b'Q' | b'p' | b'#' => words(n, x, 0, 0, 0, 0),
         _ => words(1, 0, 0, 0, 0, 0),
     }
 }

@@ -5,7 +5,7 @@
 //   G G_CTRL, S S_CTRL, Q QUERYCTRL, C CROPCAP, k G_CROP, K S_CROP with left and width
 //   u a word that is not known, l an argument one byte short, y a wrong type
 //   w a whole frame arrives, h one that is a byte short, with seconds and microseconds; v the verdict
-//   m a frame of so many bytes is made; p a plane of a frame, with the bytes of the frame and the number of the plane
+//   p a plane of a frame, with the bytes of the frame and the number of the plane
 //   # what a client has counted that takes every dequeue for a frame
 // No contract here says more than that each function is safe and ends.
 mod asking;

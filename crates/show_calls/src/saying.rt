@@ -32,8 +32,7 @@ pub fn asked(c: u8, a: &[u8]) {
         warrival of %d\x00 bytes at %t\x04\n\
         harrival of %d\x00 bytes at %t\x04\n\
         vverdict: \n\
-        ma frame of %d\x00 bytes\n\
-        pplane %d\x00\n\
+        pplane %d\x00 of a frame of %d\x04 bytes\n\
         #the client counts %d\x00 frames\n",
         c,
         a,
@@ -101,7 +100,7 @@ fn called(c: u8, number: u32, a: &[u8], memory: &[u8]) {
 
 pub fn answered(c: u8, number: u32, a: &[u8], memory: &[u8]) {
     match c {
-        b'm' | b'#' => (),
+        b'#' => (),
         b'w' | b'h' => told((number % 5 + 48) as u8, a),
         b'v' => told((number % 4 + 53) as u8, a),
         _ => called(c, number, a, memory),

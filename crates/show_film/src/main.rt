@@ -1,6 +1,6 @@
 // The whole capture device on the bench sheet: each call, what it is answered, and what can be said of the film. What is printed of
-// an answer is read from the bytes of its argument. The crate `show_calls` has the letter of each event and how it is said, the crate
-// `show_lists` how lists of events are read.
+// an answer is read from the bytes of its argument. The crate `show_calls` has the letter of each event and how it is said, `show_lists` how
+// lists of events are read.
 mod calls;
 mod events;
 
@@ -41,9 +41,9 @@ fn lists(memory: &mut Memory, space: &mut Space) {
         4f. Crop\n\
             1048576B C 100x608K k -5x608K k -2147483648x608K k 100x0K k\n\
         4g. Buffers and planes\n\
-            1048576B 304x224f 10r 6b 7b 0r 143360m 143360x0p 143360x1p 143360x2p 143360x3p \
-            304x224P 10r 8b 9b 107520m 107520x0p 107520x1p 107520x2p 107520x3p \
-            143360m 143360x0p 143360x1p 143360x2p 143360x3p",
+            1048576B 304x224f 10r 6b 7b 0r 143360x0p 143360x1p 143360x2p 143360x3p \
+            304x224P 10r 8b 9b 107520x0p 107520x1p 107520x2p 107520x3p \
+            143360x0p 143360x1p 143360x2p 143360x3p",
     );
 }
 

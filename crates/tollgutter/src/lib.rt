@@ -1,47 +1,16 @@
 // The device for programs in C: include/tollgutter.h declares the functions that this crate exports. The caller owns the device and
 // lends it to each call, which lends its arrays on. A device is numbers only, so that every content of it is one that the contracts speak of.
 ghost use mathlib.Core.Path.{_≡_};
-ghost use mathlib.Core.List.{List};
-ghost use Prim.Native.Nat.{ℕ};
 ghost use lib.ListN.{length};
 ghost use Rattle.stream_words.specs.Words.{timeOf};
-ghost use Rattle.device_state.specs.State.{stateIn};
 ghost use Rattle.arrival_replies.specs.Answer.{toldOf};
 ghost use Rattle.request_topics.specs.Request.{requestAnswer};
 ghost use Rattle.device_film.specs.Film.{takenOf, takenMemory, devicePlace};
 ghost use Rattle.device_opening.specs.Opening.{openedOf, wholeOf};
-ghost use Rattle.tollgutter.specs.Calls.{verdictTold};
+ghost use Rattle.device_numbers.specs.Told.{verdictTold};
 use arrival_replies::Told;
 use device_state::Device;
-use device_state::SetupWords;
 use plane_rules::Place;
-use stream_words::Words;
-
-// An arrival, answered in numbers.
-fn arrive(
-    setup: &SetupWords,
-    video: &mut Words,
-    memory: &mut [u8],
-    frame: &[u8],
-    seconds: u32,
-    microseconds: u32,
-) -> Told
-    ensures { λ r. ⌜ ((v : List ℕ) → (r ≡ toldOf (takenOf (stateIn (now (setup .entry)) v (now (video .entry))) (length (now (memory .entry))) (length (now (frame .entry))) (timeOf seconds microseconds) .arrival))
-        × (stateIn (now (setup .entry)) v (now (video .exit)) ≡ takenOf (stateIn (now (setup .entry)) v (now (video .entry))) (length (now (memory .entry))) (length (now (frame .entry))) (timeOf seconds microseconds) .state)
-        × (now (memory .exit) ≡ takenMemory (stateIn (now (setup .entry)) v (now (video .entry))) (now (memory .entry)) (now (frame .entry)) (timeOf seconds microseconds))) ⌝ }
-{
-    let time = stream_words::time_of(seconds, microseconds);
-    let a = device_film::arrive(setup, video, memory, frame, time);
-    arrival_replies::answer_numbers(a)
-}
-
-// The verdict as a number.
-fn verdict(setup: &SetupWords, video: &Words) -> u32
-    ensures { λ r. ⌜ ((v : List ℕ) → r ≡ verdictTold (stateIn (now (setup .entry)) v (now (video .entry)))) ⌝ }
-{
-    let v = device_film::verdict_of(setup, video);
-    stream_verdict::verdict_number(v)
-}
 
 // A device for this sheet and a picture memory of this length; what d held before does not matter.
 #[no_mangle]
@@ -85,7 +54,7 @@ pub extern "C" fn tg_arrival(
         × (now (d .exit) .sheet ≡ now (d .entry) .sheet)
         × (now (memory .exit) ≡ takenMemory (wholeOf (now (d .entry)) .state) (now (memory .entry)) (now (frame .entry)) (timeOf seconds microseconds)) ⌝ }
 {
-    arrive(&d.setup, &mut d.video, memory, frame, seconds, microseconds)
+    device_numbers::arrive(&d.setup, &mut d.video, memory, frame, seconds, microseconds)
 }
 
 // The verdict on the film: 0 RUNNING, 1 BLANK, 2 GAPS, 3 COMPLETE.
@@ -93,7 +62,7 @@ pub extern "C" fn tg_arrival(
 pub extern "C" fn tg_verdict(d: &Device) -> u32
     ensures { λ r. ⌜ r ≡ verdictTold (wholeOf (now (d .entry)) .state) ⌝ }
 {
-    verdict(&d.setup, &d.video)
+    device_numbers::verdict(&d.setup, &d.video)
 }
 
 // Where a plane of a frame of so many bytes lies.

@@ -62,10 +62,10 @@ use Rattle.device_state.proofs.Device.Laws as T′
 use Rattle.arrival_replies.specs.declared.Told.{Told}
 use Rattle.arrival_replies.proofs.Told as S-Told
 use Rattle.arrival_replies.proofs.Told.Laws as S-Told′
-use Rattle.tollgutter.proofs.arrive as g
-use Rattle.tollgutter.proofs.arrive.Symbol as g-def
-use Rattle.tollgutter.proofs.arrive.Symbol.{name as #callee}
-use Rattle.tollgutter.proofs.arrive.Met as g-thm
+use Rattle.device_numbers.proofs.arrive as g
+use Rattle.device_numbers.proofs.arrive.Symbol as g-def
+use Rattle.device_numbers.proofs.arrive.Symbol.{name as #callee}
+use Rattle.device_numbers.proofs.arrive.Met as g-thm
 use Rattle.tollgutter.proofs.tg_arrival.Key.{name as #wrapper}
 use Rattle.tollgutter.proofs.tg_arrival as f
 use Rattle.tollgutter.proofs.tg_arrival.Statement as stated
@@ -174,4 +174,4 @@ tg-arrival-spec 𝓤 H 𝓜 𝓖 𝓡 =
     entered 𝓤 H (tripleOf 𝓤 H (𝓖 .A) f.signature (f.spec 𝓤 H (𝓖 .A) (𝓜 .mem) (𝓡 .run)))
     (tables 𝓤 H 𝓜 𝓡 code.env .C) (tables 𝓤 H 𝓜 𝓡 code.env .Λ) #wrapper code.function (code.unfolded 𝓤 H 𝓜 𝓡)
     (meets 𝓤 H (𝓖 .A) (givenOf 𝓤 H 𝓜 𝓖) (𝓜 .mem) (𝓡 .run) (tablesOf 𝓤 H 𝓜 (tables 𝓤 H 𝓜 𝓡 code.env))
-    (cited 𝓤 H (Callee 𝓤 H (𝓖 .A) (𝓜 .mem) (𝓡 .run)) 𝓜 𝓡 code.env #callee g-def.routine code.calls-tollgutter·arrive (g-thm.met 𝓤 H 𝓜 𝓖 𝓡)))
+    (cited 𝓤 H (Callee 𝓤 H (𝓖 .A) (𝓜 .mem) (𝓡 .run)) 𝓜 𝓡 code.env #callee g-def.routine code.calls-device-numbers·arrive (g-thm.met 𝓤 H 𝓜 𝓖 𝓡)))

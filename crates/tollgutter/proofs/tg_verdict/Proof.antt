@@ -53,14 +53,14 @@ use denote.Exit.{yes}
 use denote.Struct.Laws as LL
 use Rattle.tollgutter.proofs.Fields.{big-lit, membersOf, map-same, lends-shr-array, shr-array-back}
 use Rattle.device_state.specs.State.{stateIn}
-use Rattle.tollgutter.specs.Calls.{verdictTold}
+use Rattle.device_numbers.specs.Told.{verdictTold}
 use Rattle.device_state.specs.declared.Device.{Device}
 use Rattle.device_state.proofs.Device as T
 use Rattle.device_state.proofs.Device.Laws as T′
-use Rattle.tollgutter.proofs.verdict as g
-use Rattle.tollgutter.proofs.verdict.Symbol as g-def
-use Rattle.tollgutter.proofs.verdict.Symbol.{name as #callee}
-use Rattle.tollgutter.proofs.verdict.Met as g-thm
+use Rattle.device_numbers.proofs.verdict as g
+use Rattle.device_numbers.proofs.verdict.Symbol as g-def
+use Rattle.device_numbers.proofs.verdict.Symbol.{name as #callee}
+use Rattle.device_numbers.proofs.verdict.Met as g-thm
 use Rattle.tollgutter.proofs.tg_verdict.Key.{name as #wrapper}
 use Rattle.tollgutter.proofs.tg_verdict as f
 use Rattle.tollgutter.proofs.tg_verdict.Statement as stated
@@ -166,4 +166,4 @@ tg-verdict-spec 𝓤 H 𝓜 𝓖 𝓡 =
     entered 𝓤 H (tripleOf 𝓤 H (𝓖 .A) f.signature (f.spec 𝓤 H (𝓖 .A) (𝓜 .mem) (𝓡 .run)))
     (tables 𝓤 H 𝓜 𝓡 code.env .C) (tables 𝓤 H 𝓜 𝓡 code.env .Λ) #wrapper code.function (code.unfolded 𝓤 H 𝓜 𝓡)
     (meets 𝓤 H (𝓖 .A) (givenOf 𝓤 H 𝓜 𝓖) (𝓜 .mem) (𝓡 .run) (tablesOf 𝓤 H 𝓜 (tables 𝓤 H 𝓜 𝓡 code.env))
-    (cited 𝓤 H (Callee 𝓤 H (𝓖 .A) (𝓜 .mem) (𝓡 .run)) 𝓜 𝓡 code.env #callee g-def.routine code.calls-tollgutter·verdict (g-thm.met 𝓤 H 𝓜 𝓖 𝓡)))
+    (cited 𝓤 H (Callee 𝓤 H (𝓖 .A) (𝓜 .mem) (𝓡 .run)) 𝓜 𝓡 code.env #callee g-def.routine code.calls-device-numbers·verdict (g-thm.met 𝓤 H 𝓜 𝓖 𝓡)))

@@ -7,12 +7,15 @@ use Rattle.show_film.proofs.events.table.Statement.{statement}
 use Rattle.show_film.proofs.events.table.Tie as tie
 
 abbrev Inv-loop : tie.InvT-loop
-Inv-loop memory₀ space₀ lists sheet₀ setup₀ values₀ video₀ e₀ i₀ memory space sheet setup values video e i =
+Inv-loop memory₀ space₀ lists d₀ e₀ i₀ memory space d e i =
     (i ≤ length lists) × (length memory ≡ length memory₀) × (length space ≡ length space₀)
 
 abbrev μ-loop : tie.MeasureT-loop
-μ-loop memory₀ space₀ lists sheet₀ setup₀ values₀ video₀ e₀ i₀ memory space sheet setup values video e i =
+μ-loop memory₀ space₀ lists d₀ e₀ i₀ memory space d e i =
     length lists - i
+
+closed-requires : tie.Need-closed-requires Inv-loop μ-loop
+closed-requires c κs = search needs
 
 begun-requires : tie.Need-begun-requires Inv-loop μ-loop
 begun-requires c κs = search needs
@@ -59,6 +62,7 @@ table-spec =
     (tie.spec
     Inv-loop
     μ-loop
+    closed-requires
     begun-requires
     loop-holds
     shared-slice-read-after

@@ -3,8 +3,8 @@ use mathlib.Core.Path.{_∙_, ap}
 use Rattle.stream_verdict.specs.declared.Verdict.{Verdict}
 use Rattle.stream_verdict.specs.Film.{verdictNumber}
 use borrow.Author.Needs.{needs}
-use Rattle.tollgutter.proofs.verdict.Statement.{statement}
-use Rattle.tollgutter.proofs.verdict.Tie as tie
+use Rattle.device_numbers.proofs.verdict.Statement.{statement}
+use Rattle.device_numbers.proofs.verdict.Tie as tie
 
 verdict-of-requires : tie.Need-verdict-of-requires
 verdict-of-requires c κs = search needs

@@ -3,8 +3,8 @@ use mathlib.Core.Path.{_∙_, ap}
 use Rattle.arrival_replies.specs.Answer.{toldOf}
 use Rattle.device_film.specs.Film.{Taken}
 use borrow.Author.Needs.{needs}
-use Rattle.tollgutter.proofs.arrive.Statement.{statement}
-use Rattle.tollgutter.proofs.arrive.Tie as tie
+use Rattle.device_numbers.proofs.arrive.Statement.{statement}
+use Rattle.device_numbers.proofs.arrive.Tie as tie
 
 time-of-requires : tie.Need-time-of-requires
 time-of-requires c κs = search needs
