@@ -1,5 +1,5 @@
 // Lines about calls, from tables. A line of a table has a letter, and what is said; between its words stand fields, which are read from the
-// bytes of the call's argument. No contract here says more than that each function is safe and ends.
+// bytes of the call's argument. And a line by itself, with numbers in it. No contract here says more than that each function is safe and ends.
 
 fn field(kind: u8, a: &[u8], at: usize) {
     match kind {
@@ -48,4 +48,51 @@ pub fn told(table: &[u8], letter: u8, a: &[u8]) {
         to_come = step(to_come, table[i], letter, a);
         i += 1;
     }
+}
+
+// The bytes of a word up to its zeros.
+fn letters(word: u32) {
+    let mut left = word;
+    while 0 < left {
+        show_text::letter((left % 256) as u8);
+        left /= 256;
+    }
+}
+
+// The next byte of a line with numbers, and what is to come: 0 in its words, % before the kind of a number. The kinds are those of fields.
+fn counted(to_come: u8, b: u8, n: u32) -> u8 {
+    if to_come == 0 {
+        if b == b'%' {
+            return b;
+        }
+        show_text::letter(b);
+        return 0;
+    }
+    match b {
+        b'd' => show_text::long(n as u64),
+        b'x' => show_text::hex(n),
+        b'c' => letters(n),
+        _ => show_text::signed(n),
+    }
+    0
+}
+
+// A line, with a number for each % in it and the kind after that: d, x, i or c, as in a table. A number that is not there is said as 0.
+pub fn line(words: &[u8], numbers: &[u32]) {
+    let mut to_come: u8 = 0;
+    let mut said: usize = 0;
+    let mut i: usize = 0;
+    while i < words.len() {
+        let n = number(numbers, said);
+        let before = to_come;
+        to_come = counted(before, words[i], n);
+        if before != 0 {
+            said = std::num::wrapping_add_usize(said, 1);
+        }
+        i += 1;
+    }
+}
+
+fn number(numbers: &[u32], k: usize) -> u32 {
+    if k < numbers.len() { numbers[k] } else { 0 }
 }

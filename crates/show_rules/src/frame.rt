@@ -1,4 +1,5 @@
-// The planes of a YU12 frame of 304x224. Each word of the frame tells its own place: so a plane's first word tells where it starts.
+// The planes of a YU12 frame of 304x224. Each word of the frame tells its own place, so that a plane's first word tells where it starts; the
+// second word of each plane is its name.
 use format_rules::Format;
 
 fn one(alignment: u32, frame: &[u8], k: u32) {
@@ -9,17 +10,27 @@ fn one(alignment: u32, frame: &[u8], k: u32) {
     };
     let mut number = 0u32;
     let p = plane_rules::plane(f, alignment, frame, k, &mut number);
-    show_text::number(b"plane ", k);
-    show_text::number(b" of ", (frame.len() % 4294967296) as u32);
-    show_text::number(b": ", number);
-    show_text::number(b", from ", wire_read::word_at(p, 0));
-    show_text::number(b", length ", (p.len() % 4294967296) as u32);
-    show_text::letter(b'\n');
+    let numbers = [
+        k,
+        (frame.len() % 4294967296) as u32,
+        number,
+        wire_read::word_at(p, 4),
+        wire_read::word_at(p, 0),
+        (p.len() % 4294967296) as u32,
+    ];
+    show_lines::line(b"plane %d of %d: %d, %cfrom %d, length %d\n", &numbers);
+}
+
+// Y, Cb and Cr, each with a space after it.
+fn named(frame: &mut [u8; 107520]) {
+    show_pictures::mark(frame);
+    wire_store::put_word(frame, 4, 0x2059);
+    wire_store::put_word(frame, 71684, 0x20_6243);
+    wire_store::put_word(frame, 89604, 0x20_7243);
 }
 
 // All of a frame, one that it has not, and one of a frame that is a byte short.
-fn all(alignment: u32, frame: &mut [u8; 107520]) {
-    show_pictures::mark(frame);
+fn all(alignment: u32, frame: &[u8; 107520]) {
     one(alignment, frame, 0);
     one(alignment, frame, 1);
     one(alignment, frame, 2);
@@ -29,5 +40,6 @@ fn all(alignment: u32, frame: &mut [u8; 107520]) {
 
 pub(crate) fn cases(alignment: u32) {
     let mut frame = [0u8; 107520];
-    all(alignment, &mut frame);
+    named(&mut frame);
+    all(alignment, &frame);
 }

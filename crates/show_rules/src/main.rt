@@ -6,6 +6,8 @@ mod sizes;
 fn main() {
     let s = bench_sheet::sheet();
     controls::cases(&s);
-    sizes::cases(&s);
-    frame::cases(sheet_geometry::line_alignment(&s));
+    let alignment = sheet_geometry::line_alignment(&s);
+    sizes::negotiated(&s, alignment);
+    sizes::cropped(&s);
+    frame::cases(alignment);
 }
