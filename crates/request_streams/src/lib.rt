@@ -1,5 +1,4 @@
-// The requests about the stream. The argument's length is tested, then the type that it names, and the call goes to the stream of that
-// type: there is one, of pictures.
+// The requests about the stream. The argument's length is tested; the type that it names is tested by the call of `typed_calls`.
 ghost use mathlib.Core.Path.{_≡_};
 ghost use mathlib.Core.List.{List};
 ghost use Prim.Native.Nat.{ℕ};
@@ -8,9 +7,6 @@ ghost use Rattle.device_state.specs.Setup.{Setup};
 ghost use Rattle.device_state.specs.State.{stateOf};
 ghost use Rattle.device_state.specs.Answers.{answer};
 ghost use Rattle.request_topics.specs.Request.{onTopic, streams};
-
-mod by_type;
-
 use ioctl_table::Call;
 use ioctl_table::Refusal;
 use stream_words::Words;
@@ -26,37 +22,37 @@ pub fn stream_request(call: Call, size: u32, video: &mut Words, argument: &mut [
             if argument.len() != 20 {
                 return ioctl_table::errno(Refusal::ArgumentLength);
             }
-            by_type::reqbufs(size, video, argument)
+            typed_calls::reqbufs(size, video, argument)
         }
         Call::Querybuf => {
             if argument.len() != 68 {
                 return ioctl_table::errno(Refusal::ArgumentLength);
             }
-            by_type::querybuf(size, video, argument)
+            typed_calls::querybuf(size, video, argument)
         }
         Call::Qbuf => {
             if argument.len() != 68 {
                 return ioctl_table::errno(Refusal::ArgumentLength);
             }
-            by_type::qbuf(size, video, argument)
+            typed_calls::qbuf(size, video, argument)
         }
         Call::Dqbuf => {
             if argument.len() != 68 {
                 return ioctl_table::errno(Refusal::ArgumentLength);
             }
-            by_type::dqbuf(size, video, argument)
+            typed_calls::dqbuf(size, video, argument)
         }
         Call::Streamon => {
             if argument.len() != 4 {
                 return ioctl_table::errno(Refusal::ArgumentLength);
             }
-            by_type::streamon(video, argument)
+            typed_calls::streamon(video, argument)
         }
         Call::Streamoff => {
             if argument.len() != 4 {
                 return ioctl_table::errno(Refusal::ArgumentLength);
             }
-            by_type::streamoff(video, argument)
+            typed_calls::streamoff(video, argument)
         }
         _ => ioctl_table::errno(Refusal::UnknownWord),
     }

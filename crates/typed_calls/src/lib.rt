@@ -1,4 +1,5 @@
-// The type that an argument names is tested, and the call goes to the stream of that type: there is one, of pictures.
+// The six calls on a stream, by the type that an argument names: the type is tested, and the call goes to the stream of that type. There is
+// one, of pictures. That the argument has the call's length is tested by the caller.
 ghost use mathlib.Core.Path.{_≡_};
 ghost use mathlib.Core.List.{List};
 ghost use Prim.Native.Nat.{ℕ};
@@ -17,7 +18,7 @@ use stream_words::Words;
 const PICTURES: u32 = 1;
 
 // Buffers are asked for, or freed.
-pub(crate) fn reqbufs(size: u32, video: &mut Words, argument: &mut [u8]) -> u32
+pub fn reqbufs(size: u32, video: &mut Words, argument: &mut [u8]) -> u32
     ensures { λ r. ⌜ ((v : List ℕ) (p : Setup) → p .size ≡ size → answer r (stateOf p v (streamIn (now (video .exit)))) (now (argument .exit))
         ≡ streamCall reqbufsOf 4 (stateOf p v (streamIn (now (video .entry)))) (now (argument .entry))) ⌝ }
 {
@@ -28,7 +29,7 @@ pub(crate) fn reqbufs(size: u32, video: &mut Words, argument: &mut [u8]) -> u32
 }
 
 // The status of a buffer.
-pub(crate) fn querybuf(size: u32, video: &Words, argument: &mut [u8]) -> u32
+pub fn querybuf(size: u32, video: &Words, argument: &mut [u8]) -> u32
     ensures { λ r. ⌜ ((v : List ℕ) (p : Setup) → p .size ≡ size → answer r (stateOf p v (streamIn (now (video .entry)))) (now (argument .exit))
         ≡ streamCall querybufOf 4 (stateOf p v (streamIn (now (video .entry)))) (now (argument .entry))) ⌝ }
 {
@@ -39,7 +40,7 @@ pub(crate) fn querybuf(size: u32, video: &Words, argument: &mut [u8]) -> u32
 }
 
 // A buffer is handed in.
-pub(crate) fn qbuf(size: u32, video: &mut Words, argument: &mut [u8]) -> u32
+pub fn qbuf(size: u32, video: &mut Words, argument: &mut [u8]) -> u32
     ensures { λ r. ⌜ ((v : List ℕ) (p : Setup) → p .size ≡ size → answer r (stateOf p v (streamIn (now (video .exit)))) (now (argument .exit))
         ≡ streamCall qbufOf 4 (stateOf p v (streamIn (now (video .entry)))) (now (argument .entry))) ⌝ }
 {
@@ -50,7 +51,7 @@ pub(crate) fn qbuf(size: u32, video: &mut Words, argument: &mut [u8]) -> u32
 }
 
 // The oldest filled buffer is handed over.
-pub(crate) fn dqbuf(size: u32, video: &mut Words, argument: &mut [u8]) -> u32
+pub fn dqbuf(size: u32, video: &mut Words, argument: &mut [u8]) -> u32
     ensures { λ r. ⌜ ((v : List ℕ) (p : Setup) → p .size ≡ size → answer r (stateOf p v (streamIn (now (video .exit)))) (now (argument .exit))
         ≡ streamCall dqbufOf 4 (stateOf p v (streamIn (now (video .entry)))) (now (argument .entry))) ⌝ }
 {
@@ -61,7 +62,7 @@ pub(crate) fn dqbuf(size: u32, video: &mut Words, argument: &mut [u8]) -> u32
 }
 
 // A run begins.
-pub(crate) fn streamon(video: &mut Words, argument: &[u8]) -> u32
+pub fn streamon(video: &mut Words, argument: &[u8]) -> u32
     ensures { λ r. ⌜ ((v : List ℕ) (p : Setup) → answer r (stateOf p v (streamIn (now (video .exit)))) (now (argument .entry))
         ≡ streamCall streamonOf 0 (stateOf p v (streamIn (now (video .entry)))) (now (argument .entry))) ⌝ }
 {
@@ -72,7 +73,7 @@ pub(crate) fn streamon(video: &mut Words, argument: &[u8]) -> u32
 }
 
 // The run ends, if one is on, and the queues are emptied.
-pub(crate) fn streamoff(video: &mut Words, argument: &[u8]) -> u32
+pub fn streamoff(video: &mut Words, argument: &[u8]) -> u32
     ensures { λ r. ⌜ ((v : List ℕ) (p : Setup) → answer r (stateOf p v (streamIn (now (video .exit)))) (now (argument .entry))
         ≡ streamCall streamoffOf 0 (stateOf p v (streamIn (now (video .entry)))) (now (argument .entry))) ⌝ }
 {
