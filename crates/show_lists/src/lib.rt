@@ -1,6 +1,6 @@
 // A table of lists, read byte by byte: a line with the title of a list, a line with its events. An event is a letter, with a number right
-// before it where it has one, or two with an x between them. A title is said as it stands. No contract here says more than that each
-// function is safe and ends.
+// before it where it has one, or two with an x between them; a / is a new line. A title is said as it stands. No contract here says more than
+// that each function is safe and ends.
 
 // How far a table is read: whether in a title; the letter of the event that just ended, 0 where none did, and a line's end where the list
 // did; its two numbers, of 32 bits each, and whether the one that is read is below zero; and how many events d the list has had.
@@ -76,6 +76,10 @@ pub fn after(r: Reading, c: u8) -> Reading {
         b'\n' => {
             show_text::letter(c);
             begun(true, c, 0)
+        }
+        b'/' => {
+            show_text::letter(b'\n');
+            begun(false, 0, r.counted)
         }
         b' ' => begun(false, 0, r.counted),
         _ => {

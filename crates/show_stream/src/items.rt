@@ -1,5 +1,4 @@
-// How an event is said, from the words that are written for it: a line for the letter of each event, and one for each letter that the
-// module `answers` gives to an answer.
+// How an event is said, from the words that are written for it: a line for the letter of each event, and one for the letter of each answer.
 
 pub(crate) fn told(letter: u8, a: &[u8]) {
     show_lines::told(
@@ -31,10 +30,13 @@ pub(crate) fn told(letter: u8, a: &[u8]) {
         7GAPS;\n\
         8COMPLETE;\n\
         N: %d\x00;\n\
-        G: granted %d\x00;\n\
-        I: returned %d\x00 number %d\x0c used %d\x04 time %t\x10 intact;\n\
-        S: returned %d\x00 number %d\x0c used %d\x04 time %t\x10 SPOILT;\n\
-        B: flags %d\x08 used %d\x04 number %d\x0c time %t\x10 offset %d\x18 length %d\x1c;\n\
+        R: granted %d\x00;\n\
+        Q: 0;\n\
+        S: 0;\n\
+        T: 0;\n\
+        D: returned %d\x00 number %d\x2c used %d\x08 time %t\x14 intact;\n\
+        X: returned %d\x00 number %d\x2c used %d\x08 time %t\x14 SPOILT;\n\
+        B: flags %d\x0c used %d\x08 number %d\x2c time %t\x14 offset %d\x34 length %d\x38;\n\
         Haccepted %d\x00 handed %d\x04 damaged %d\x08 dropped %d\x0c discarded %d\x10;\n",
         letter,
         a,

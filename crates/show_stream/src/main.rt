@@ -1,7 +1,6 @@
 // Lists of events over one stream of buffers: what each event is answered, an item to an event. Most lists stand
 // on standard input, a line with a title, a line with events; the module `events` has the letter of each event, the module `items` how it
 // is said.
-mod answers;
 mod events;
 mod items;
 mod lists;

@@ -7,11 +7,10 @@ use Rattle.show_stream.proofs.events.table.Statement.{statement}
 use Rattle.show_stream.proofs.events.table.Tie as tie
 
 abbrev Inv-loop : tie.InvT-loop
-Inv-loop memory₀ lists s₀ size₀ clock₀ e₀ i₀ memory s size clock e i =
-    (i ≤ length lists) × (length memory ≡ length memory₀)
+Inv-loop memory₀ lists s₀ e₀ r₀ i₀ memory s e r i = (i ≤ length lists) × (length memory ≡ length memory₀)
 
 abbrev μ-loop : tie.MeasureT-loop
-μ-loop memory₀ lists s₀ size₀ clock₀ e₀ i₀ memory s size clock e i = length lists - i
+μ-loop memory₀ lists s₀ e₀ r₀ i₀ memory s e r i = length lists - i
 
 fresh-requires : tie.Need-fresh-requires Inv-loop μ-loop
 fresh-requires c κs = search needs
@@ -30,6 +29,9 @@ after-requires c κs = search needs
 
 add-i : tie.Need-add-i Inv-loop μ-loop
 add-i c = search needs
+
+next-requires : tie.Need-next-requires Inv-loop μ-loop
+next-requires c κs = search needs
 
 event-requires : tie.Need-event-requires Inv-loop μ-loop
 event-requires c κs = search needs
@@ -64,6 +66,7 @@ table-spec =
     shared-slice-read-after
     after-requires
     add-i
+    next-requires
     event-requires
     loop-less
     loop-again

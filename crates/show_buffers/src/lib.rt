@@ -1,0 +1,80 @@
+// A stream of buffers, and what can be asked of it, by letters. The number of a call stands in its argument, and so does the answer:
+//   r REQBUFS, b QUERYBUF, q QBUF, d DQBUF, s STREAMON, t STREAMOFF; the letter of an answer is the capital one of its call, N where the
+//   argument has the number of a refusal, and X where a frame is handed over that does not stand in memory as it arrived
+//   v the verdict, which answers with a digit from 5 on; h the record of the run, which answers H
+//   a line's end makes the stream anew; a the run has accepted 4,294,967,293 arrivals: a count that no list could reach
+// No contract here says more than that each function is safe and ends.
+use stream_words::Words;
+
+fn asked(s: &mut Words, c: u8, size: u32, a: &mut [u8]) -> u32 {
+    match c {
+        b'r' => buffer_calls::reqbufs(s, 1, size, a),
+        b'b' => buffer_calls::querybuf(s, 1, size, a),
+        b'q' => queue_calls::qbuf(s, 1, size, a),
+        b'd' => queue_calls::dqbuf(s, 1, size, a),
+        b's' => run_calls::streamon(s),
+        _ => run_calls::streamoff(s),
+    }
+}
+
+// Whether the frame of the time that is told stands in memory at the offset that is told.
+fn held(memory: &[u8], a: &[u8]) -> bool {
+    show_pictures::stands_at(
+        memory,
+        wire_read::word_at(a, 52) as usize,
+        wire_read::word_at(a, 8) as usize,
+        wire_read::word_at(a, 24),
+    )
+}
+
+// A call of a client.
+fn call(s: &mut Words, memory: &[u8], c: u8, size: u32, a: &mut [u8]) -> u8 {
+    let number = asked(s, c, size, a);
+    if number != 0 {
+        wire_store::put_word(a, 0, number);
+        return b'N';
+    }
+    if c == b'd' {
+        if !held(memory, a) {
+            return b'X';
+        }
+    }
+    std::num::wrapping_sub_u8(c, 32)
+}
+
+// What became of the arrivals of the last run: five words, accepted, handed over, damaged, dropped, discarded.
+fn record(s: &Words, a: &mut [u8]) {
+    let mut k: usize = 0;
+    while k < 5 {
+        wire_store::put_word(a, k * 4, stream_words::low(s[stream_words::ACCEPTED + k]));
+        k += 1;
+    }
+}
+
+// Another event, with the length that the memory has.
+fn other(s: &mut Words, length: u64, c: u8, a: &mut [u8]) -> u8 {
+    match c {
+        b'\n' => {
+            *s = stream_run::fresh(length);
+            0
+        }
+        b'a' => {
+            s[stream_words::ACCEPTED] = 4294967293;
+            0
+        }
+        b'v' => (stream_verdict::verdict_number(stream_verdict::film_verdict(s)) % 4 + 53) as u8,
+        b'h' => {
+            record(s, a);
+            b'H'
+        }
+        _ => 0,
+    }
+}
+
+// An event on a stream whose frames have this size. The letter of its answer is given back, and 0 where it has none.
+pub fn event(s: &mut Words, memory: &[u8], c: u8, size: u32, a: &mut [u8]) -> u8 {
+    match c {
+        b'r' | b'b' | b'q' | b'd' | b's' | b't' => call(s, memory, c, size, a),
+        _ => other(s, memory.len() as u64, c, a),
+    }
+}
