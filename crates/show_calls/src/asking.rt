@@ -50,7 +50,7 @@ fn words(a: u32, b: u32, c: u32, d: u32, e: u32, f: u32) -> Words {
 
 // What a client asks with, by two numbers. An opening has the length of the memory, that of the sheet, and the sheet's least width, which
 // is even in a good one. The 7 is the bytes per line that a client would like, which nobody looks at.
-pub fn argument(c: u8, x: u32, n: u32) -> Words {
+pub(crate) fn argument(c: u8, x: u32, n: u32) -> Words {
     match c {
         b'B' => words(n, 324, 160, 0, 0, 0),
         b'D' => words(n, 324, 161, 0, 0, 0),

@@ -11,7 +11,6 @@
 mod asking;
 mod saying;
 
-pub use asking::argument;
 pub use asking::lent;
 pub use asking::word;
 pub use saying::answered;

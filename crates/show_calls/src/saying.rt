@@ -1,7 +1,7 @@
 // How an event is said, from the words of its argument.
+use crate::asking;
 
-// What is asked.
-pub fn asked(c: u8, a: &[u8]) {
+fn said(c: u8, a: &[u8]) {
     show_lines::told(
         b"Bopen, bench sheet, memory of %d\x00 bytes\n\
         Dopen, damaged sheet, memory of %d\x00 bytes\n\
@@ -37,6 +37,13 @@ pub fn asked(c: u8, a: &[u8]) {
         c,
         a,
     );
+}
+
+// What is asked, by two numbers: it is written as the argument, and said.
+pub fn asked(c: u8, x: u32, n: u32, a: &mut [u8]) {
+    let words = asking::argument(c, x, n);
+    wire_store::put_words(a, 0, &words);
+    said(c, a);
 }
 
 // What is answered: a line for each letter of a call, for the kinds 0 to 4 of what becomes of an arrival, for the verdicts 0 to 3.

@@ -1,19 +1,12 @@
 // The whole capture device on the bench sheet: each call, what it is answered, and what can be said of the film. What is printed of
 // an answer is read from the bytes of its argument. The crate `show_calls` has the letter of each event and how it is said, `show_lists` how
 // lists of events are read.
-mod calls;
 mod events;
 
-// The picture memory, as long as that of the bench, and the space that each frame is made in.
-type Memory = [u8; 1048576];
-
-type Space = [u8; 143360];
-
-// Both are lent with their lengths in their types: an array just made is too long for the checker to count.
-fn lists(memory: &mut Memory, space: &mut Space) {
+fn main() {
+    let mut memory = [0u8; 1048576];
     events::table(
-        memory,
-        space,
+        &mut memory,
         b"1. Opening\n\
             1048576B v 1048576D c o 1x0w v 1048576U v 1073741824B 1x0w v 1073741825B c o 1x0w v\n\
         2. Negotiation\n\
@@ -45,10 +38,4 @@ fn lists(memory: &mut Memory, space: &mut Space) {
             304x224P 10r 8b 9b 107520x0p 107520x1p 107520x2p 107520x3p \
             143360x0p 143360x1p 143360x2p 143360x3p",
     );
-}
-
-fn main() {
-    let mut memory = [0u8; 1048576];
-    let mut space = [0u8; 143360];
-    lists(&mut memory, &mut space);
 }

@@ -1,5 +1,4 @@
--- Memory and space keep their lengths; the bytes of the table that are left are the measure. Assumes nothing.
-use mathlib.Core.Path.{_≡_}
+-- The bytes of the table that are left are the measure. Assumes nothing.
 use Prim.Native.Nat.{_≤_, _-_}
 use lib.ListN.{length}
 use borrow.Author.Needs.{needs}
@@ -7,15 +6,16 @@ use Rattle.show_film.proofs.events.table.Statement.{statement}
 use Rattle.show_film.proofs.events.table.Tie as tie
 
 abbrev Inv-loop : tie.InvT-loop
-Inv-loop memory₀ space₀ lists d₀ e₀ i₀ memory space d e i =
-    (i ≤ length lists) × (length memory ≡ length memory₀) × (length space ≡ length space₀)
+Inv-loop memory₀ lists d₀ e₀ i₀ memory d e i = i ≤ length lists
 
 abbrev μ-loop : tie.MeasureT-loop
-μ-loop memory₀ space₀ lists d₀ e₀ i₀ memory space d e i =
-    length lists - i
+μ-loop memory₀ lists d₀ e₀ i₀ memory d e i = length lists - i
 
-closed-requires : tie.Need-closed-requires Inv-loop μ-loop
-closed-requires c κs = search needs
+slice-aggregate-open : tie.Need-slice-aggregate-open Inv-loop μ-loop
+slice-aggregate-open c = search needs
+
+open-requires : tie.Need-open-requires Inv-loop μ-loop
+open-requires c κs = search needs
 
 begun-requires : tie.Need-begun-requires Inv-loop μ-loop
 begun-requires c κs = search needs
@@ -47,12 +47,6 @@ loop-less-2 c = search needs
 loop-again-2 : tie.Need-loop-again-2 Inv-loop μ-loop
 loop-again-2 c = search needs
 
-same-length : tie.Need-same-length Inv-loop μ-loop
-same-length c = search needs
-
-same-length-2 : tie.Need-same-length-2 Inv-loop μ-loop
-same-length-2 c = search needs
-
 returns : tie.Need-returns Inv-loop μ-loop
 returns c = search needs
 
@@ -62,7 +56,8 @@ table-spec =
     (tie.spec
     Inv-loop
     μ-loop
-    closed-requires
+    slice-aggregate-open
+    open-requires
     begun-requires
     loop-holds
     shared-slice-read-after
@@ -73,6 +68,4 @@ table-spec =
     loop-again
     loop-less-2
     loop-again-2
-    same-length
-    same-length-2
     returns)
