@@ -1,6 +1,5 @@
 // Controls, sizes, crop and planes of the bench sheet: what each layer answers, a line to an answer.
 mod controls;
-mod frame;
 mod sizes;
 
 fn main() {
@@ -9,5 +8,5 @@ fn main() {
     let alignment = sheet_geometry::line_alignment(&s);
     sizes::negotiated(&s, alignment);
     sizes::cropped(&s);
-    frame::cases(alignment);
+    show_planes::planes(alignment);
 }

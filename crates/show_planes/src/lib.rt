@@ -1,5 +1,5 @@
-// The planes of a YU12 frame of 304x224. Each word of the frame tells its own place, so that a plane's first word tells where it starts; the
-// second word of each plane is its name.
+// The planes of a YU12 frame of 304x224, said a line to a plane. Each word of the frame tells its own place, so that a plane's first word
+// tells where it starts; the second word of each plane is its name. No contract here says more than that each function is safe and ends.
 use format_rules::Format;
 
 fn one(alignment: u32, frame: &[u8], k: u32) {
@@ -38,7 +38,7 @@ fn all(alignment: u32, frame: &[u8; 107520]) {
     one(alignment, wire_read::part(frame, 0, 107519), 0);
 }
 
-pub(crate) fn cases(alignment: u32) {
+pub fn planes(alignment: u32) {
     let mut frame = [0u8; 107520];
     named(&mut frame);
     all(alignment, &frame);
