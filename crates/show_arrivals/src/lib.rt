@@ -5,12 +5,22 @@
 use stream_words::Time;
 use stream_words::Words;
 
-// An event on a stream: its letter and its number, which is the microseconds of an arrival; the size of a frame, and the seconds on the clock.
+// An event on a stream: its letter and its number, which is the microseconds of an arrival; the size of a frame, the seconds on the clock, and
+// how much of the memory there is.
 pub struct Event {
     pub letter: u8,
     pub number: u32,
     pub size: u32,
     pub clock: u32,
+    pub length: u32,
+}
+
+// Whether the letter is that of an arrival.
+pub fn arrival(c: u8) -> bool {
+    match c {
+        b'w' | b'u' | b'o' | b'm' | b'l' | b'p' | b'g' => true,
+        _ => false,
+    }
 }
 
 // How long the frame is.
@@ -43,14 +53,22 @@ fn taken(s: &mut Words, memory: &mut [u8], frame: &[u8], e: Event, a: &mut [u8])
     (told.kind % 5 + 48) as u8
 }
 
+// How much of the memory is lent.
+fn room(c: u8, length: u32) -> usize {
+    if c == b'l' { 100 } else { length as usize }
+}
+
+fn lent(memory: &mut [u8], n: usize) -> &mut [u8] {
+    if memory.len() < n {
+        return memory;
+    }
+    &mut memory[..n]
+}
+
 // A frame arrives. Its bytes go by its number.
 pub fn arrive(s: &mut Words, memory: &mut [u8], e: Event, a: &mut [u8]) -> u8 {
     let mut space = [0u8; 8193];
     show_pictures::fill(&mut space, e.number);
     let frame = wire_read::part(&space, 0, length(e.letter, e.size) as usize);
-    if e.letter == b'l' {
-        let mut few = [0u8; 100];
-        return taken(s, &mut few, frame, e, a);
-    }
-    taken(s, memory, frame, e, a)
+    taken(s, lent(memory, room(e.letter, e.length)), frame, e, a)
 }

@@ -2,8 +2,9 @@
 //   r REQBUFS, b QUERYBUF, q QBUF, d DQBUF, s STREAMON, t STREAMOFF; the letter of an answer is the capital one of its call, N where the
 //   argument has the number of a refusal, and X where a frame is handed over that does not stand in memory as it arrived
 //   v the verdict, which answers with a digit from 5 on; h the record of the run, which answers H
-//   a line's end makes the stream anew; a the run has accepted 4,294,967,293 arrivals: a count that no list could reach
+//   a line's end, and k with the memory's length, make the stream anew; a the run has accepted 4,294,967,293 arrivals: a count that no list could reach
 // No contract here says more than that each function is safe and ends.
+use show_arrivals::Event;
 use stream_words::Words;
 
 fn asked(s: &mut Words, c: u8, size: u32, a: &mut [u8]) -> u32 {
@@ -52,10 +53,10 @@ fn record(s: &Words, a: &mut [u8]) {
 }
 
 // Another event, with the length that the memory has.
-fn other(s: &mut Words, length: u64, c: u8, a: &mut [u8]) -> u8 {
+fn other(s: &mut Words, length: u32, c: u8, a: &mut [u8]) -> u8 {
     match c {
-        b'\n' => {
-            *s = stream_run::fresh(length);
+        b'\n' | b'k' => {
+            *s = stream_run::fresh(length as u64);
             0
         }
         b'a' => {
@@ -71,10 +72,11 @@ fn other(s: &mut Words, length: u64, c: u8, a: &mut [u8]) -> u8 {
     }
 }
 
-// An event on a stream whose frames have this size. The letter of its answer is given back, and 0 where it has none.
-pub fn event(s: &mut Words, memory: &[u8], c: u8, size: u32, a: &mut [u8]) -> u8 {
+// The letter of the answer of an event is given back, and 0 where it has none.
+pub fn event(s: &mut Words, memory: &[u8], e: Event, a: &mut [u8]) -> u8 {
+    let c = e.letter;
     match c {
-        b'r' | b'b' | b'q' | b'd' | b's' | b't' => call(s, memory, c, size, a),
-        _ => other(s, memory.len() as u64, c, a),
+        b'r' | b'b' | b'q' | b'd' | b's' | b't' => call(s, memory, c, e.size, a),
+        _ => other(s, e.length, c, a),
     }
 }

@@ -1,5 +1,4 @@
--- The memory keeps its length; the bytes of the table that are left are the measure. Assumes nothing.
-use mathlib.Core.Path.{_≡_}
+-- The bytes of the table that are left are the measure. Assumes nothing.
 use Prim.Native.Nat.{_≤_, _-_}
 use lib.ListN.{length}
 use borrow.Author.Needs.{needs}
@@ -7,7 +6,7 @@ use Rattle.show_stream.proofs.events.table.Statement.{statement}
 use Rattle.show_stream.proofs.events.table.Tie as tie
 
 abbrev Inv-loop : tie.InvT-loop
-Inv-loop memory₀ lists s₀ e₀ r₀ i₀ memory s e r i = (i ≤ length lists) × (length memory ≡ length memory₀)
+Inv-loop memory₀ lists s₀ e₀ r₀ i₀ memory s e r i = i ≤ length lists
 
 abbrev μ-loop : tie.MeasureT-loop
 μ-loop memory₀ lists s₀ e₀ r₀ i₀ memory s e r i = length lists - i
@@ -48,9 +47,6 @@ loop-less-2 c = search needs
 loop-again-2 : tie.Need-loop-again-2 Inv-loop μ-loop
 loop-again-2 c = search needs
 
-same-length : tie.Need-same-length Inv-loop μ-loop
-same-length c = search needs
-
 returns : tie.Need-returns Inv-loop μ-loop
 returns c = search needs
 
@@ -72,5 +68,4 @@ table-spec =
     loop-again
     loop-less-2
     loop-again-2
-    same-length
     returns)
