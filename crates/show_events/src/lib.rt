@@ -11,7 +11,7 @@ pub type Memory = [u8; 1048576];
 // What an event asks is done: the device after it, and the number that comes back.
 fn done(d: Device, memory: &mut Memory, c: u8, a: &mut [u8]) -> Made {
     match c {
-        b'B' | b'D' | b'U' => show_requests::open(a),
+        b'B' | b'D' | b'U' => show_frames::open(a),
         b'w' | b'h' => show_frames::arrive(d, memory, a),
         b'v' | b'p' | b'#' => {
             let number = show_frames::read(d, c, a);

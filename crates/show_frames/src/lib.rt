@@ -1,10 +1,19 @@
-// The film of a device: frames that arrive, the verdict, planes. The device goes in whole and comes back whole, with the number that a caller is
-// given. What is asked stands in the words of an argument, and so does the answer. No contract here says more than that each function is
-// safe and ends.
+// A device and its film: it is opened, frames arrive, the verdict, planes. The device goes in whole and comes back whole, with the number that a
+// caller is given. What is asked stands in the words of an argument, and so does the answer. No contract here says more than that each
+// function is safe and ends.
 use device_opening::Made;
 use device_state::Device;
 use device_state::SetupWords;
 use stream_words::Words;
+
+// A device is opened: a word of the argument says how long its memory is, the next how much of the sheet is lent, the last is the sheet's
+// least width.
+pub fn open(a: &[u8]) -> Made {
+    let mut bytes = bench_sheet::sheet();
+    wire_store::put_word(&mut bytes, 188, wire_read::word_at(a, 8));
+    let lent = wire_read::part(&bytes, 0, wire_read::word_at(a, 4) as usize);
+    device_opening::open_device(lent, wire_read::word_at(a, 0) as u64)
+}
 
 // The space that a frame is made in. It is lent with its length in its type: an array just made is too long for the checker to count.
 type Space = [u8; 143360];
