@@ -17,12 +17,25 @@ use stream_words::Words;
 // The type of pictures: video capture.
 const PICTURES: u32 = 1;
 
+// Where the argument of each call names its type.
+const REQBUFS_TYPE: usize = 4;
+
+const QUERYBUF_TYPE: usize = 4;
+
+const QBUF_TYPE: usize = 4;
+
+const DQBUF_TYPE: usize = 4;
+
+const STREAMON_TYPE: usize = 0;
+
+const STREAMOFF_TYPE: usize = 0;
+
 // Buffers are asked for, or freed.
 pub fn reqbufs(size: u32, video: &mut Words, argument: &mut [u8]) -> u32
     ensures { λ r. ⌜ ((v : List ℕ) (p : Setup) → p .size ≡ size → answer r (stateOf p v (streamIn (now (video .exit)))) (now (argument .exit))
         ≡ streamCall reqbufsOf 4 (stateOf p v (streamIn (now (video .entry)))) (now (argument .entry))) ⌝ }
 {
-    if wire_read::word_at(argument, 4) != PICTURES {
+    if wire_read::word_at(argument, REQBUFS_TYPE) != PICTURES {
         return ioctl_table::errno(Refusal::WrongType);
     }
     buffer_calls::reqbufs(video, PICTURES, size, argument)
@@ -33,7 +46,7 @@ pub fn querybuf(size: u32, video: &Words, argument: &mut [u8]) -> u32
     ensures { λ r. ⌜ ((v : List ℕ) (p : Setup) → p .size ≡ size → answer r (stateOf p v (streamIn (now (video .entry)))) (now (argument .exit))
         ≡ streamCall querybufOf 4 (stateOf p v (streamIn (now (video .entry)))) (now (argument .entry))) ⌝ }
 {
-    if wire_read::word_at(argument, 4) != PICTURES {
+    if wire_read::word_at(argument, QUERYBUF_TYPE) != PICTURES {
         return ioctl_table::errno(Refusal::WrongType);
     }
     buffer_calls::querybuf(video, PICTURES, size, argument)
@@ -44,7 +57,7 @@ pub fn qbuf(size: u32, video: &mut Words, argument: &mut [u8]) -> u32
     ensures { λ r. ⌜ ((v : List ℕ) (p : Setup) → p .size ≡ size → answer r (stateOf p v (streamIn (now (video .exit)))) (now (argument .exit))
         ≡ streamCall qbufOf 4 (stateOf p v (streamIn (now (video .entry)))) (now (argument .entry))) ⌝ }
 {
-    if wire_read::word_at(argument, 4) != PICTURES {
+    if wire_read::word_at(argument, QBUF_TYPE) != PICTURES {
         return ioctl_table::errno(Refusal::WrongType);
     }
     queue_calls::qbuf(video, PICTURES, size, argument)
@@ -55,7 +68,7 @@ pub fn dqbuf(size: u32, video: &mut Words, argument: &mut [u8]) -> u32
     ensures { λ r. ⌜ ((v : List ℕ) (p : Setup) → p .size ≡ size → answer r (stateOf p v (streamIn (now (video .exit)))) (now (argument .exit))
         ≡ streamCall dqbufOf 4 (stateOf p v (streamIn (now (video .entry)))) (now (argument .entry))) ⌝ }
 {
-    if wire_read::word_at(argument, 4) != PICTURES {
+    if wire_read::word_at(argument, DQBUF_TYPE) != PICTURES {
         return ioctl_table::errno(Refusal::WrongType);
     }
     queue_calls::dqbuf(video, PICTURES, size, argument)
@@ -66,7 +79,7 @@ pub fn streamon(video: &mut Words, argument: &[u8]) -> u32
     ensures { λ r. ⌜ ((v : List ℕ) (p : Setup) → answer r (stateOf p v (streamIn (now (video .exit)))) (now (argument .entry))
         ≡ streamCall streamonOf 0 (stateOf p v (streamIn (now (video .entry)))) (now (argument .entry))) ⌝ }
 {
-    if wire_read::word_at(argument, 0) != PICTURES {
+    if wire_read::word_at(argument, STREAMON_TYPE) != PICTURES {
         return ioctl_table::errno(Refusal::WrongType);
     }
     run_calls::streamon(video)
@@ -77,7 +90,7 @@ pub fn streamoff(video: &mut Words, argument: &[u8]) -> u32
     ensures { λ r. ⌜ ((v : List ℕ) (p : Setup) → answer r (stateOf p v (streamIn (now (video .exit)))) (now (argument .entry))
         ≡ streamCall streamoffOf 0 (stateOf p v (streamIn (now (video .entry)))) (now (argument .entry))) ⌝ }
 {
-    if wire_read::word_at(argument, 0) != PICTURES {
+    if wire_read::word_at(argument, STREAMOFF_TYPE) != PICTURES {
         return ioctl_table::errno(Refusal::WrongType);
     }
     run_calls::streamoff(video)
