@@ -4,7 +4,10 @@
  * calls and depends on nothing: the caller owns the device, the arguments, the picture memory and the frames.
  * Every call answers every content of what it is lent; a refused call changes nothing. Numbers given back:
  *
- *     0 done   11 EAGAIN   14 EFAULT   16 EBUSY   22 EINVAL   34 ERANGE   75 EOVERFLOW
+ *     0 done   11 EAGAIN   14 EFAULT   16 EBUSY   22 EINVAL   25 ENOTTY   34 ERANGE   75 EOVERFLOW
+ *
+ * 11 is DQBUF's alone and means "soon": a run is on, and a frame may arrive. Once the run is over, or before one has begun,
+ * DQBUF gives 22. 25 is an unknown word; a closed device gives 22 to that too, as to everything.
  *
  * What the caller has to see to, since no proof reaches a C caller:
  *   - each pointer points to as many bytes as its length says (a length of 0 may come with any pointer that is

@@ -75,7 +75,7 @@ impl Case {
 
     fn expected(&self) -> u32 {
         if self.word == UNKNOWN {
-            22
+            25
         } else {
             0
         }

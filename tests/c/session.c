@@ -128,6 +128,7 @@ static void closed(void)
     memset(&zero, 0, sizeof zero);
     memset(argument, 0, sizeof argument);
     expect("all zero: QUERYCAP", 22, tg_request(&zero, calls[QUERYCAP].word, argument, 104));
+    expect("all zero: unknown word", 22, tg_request(&zero, 0x12345678u, argument, 4));
     expect("all zero: verdict", TG_BLANK, tg_verdict(&zero));
     expect("all zero: plane", 22, tg_plane(&zero, 0, 0).number);
     expect("all zero: arrival", 22, tg_arrival(&zero, memory, 0, frame, 0, 0, 0).number);
@@ -214,7 +215,7 @@ static void settings(void)
     expect("crop.height", 300, (uint32_t)s->setup.crop.height);
     expect("S_CTRL", 0, simple(S_CTRL, CONTRAST, 7, 0, 0, 0));
     expect("values[0]", 6, s->values[0]);
-    expect("unknown word", 22, tg_request(&box.device, 0x12345678u, argument, 4));
+    expect("unknown word", 25, tg_request(&box.device, 0x12345678u, argument, 4));
     expect("wrong length", 14, tg_request(&box.device, calls[G_FMT].word, argument, 203));
 }
 
@@ -265,6 +266,7 @@ static void fill(void)
         line(0, i + 1);
     }
     for (i = 0; i < 32; i++) expect("video.index", 31 - i, v->index[place(i)]);
+    expect("DQBUF, no run yet", 22, buffer(DQBUF, 0));
     expect("STREAMON", 0, simple(STREAMON, 1, 0, 0, 0, 0));
     expect("video.streaming", 1, v->streaming);
     expect("video.ran", 1, v->ran);
@@ -356,6 +358,7 @@ static void go_round(void)
     line(0, 0);
     expect("DQBUF", 11, buffer(DQBUF, 0));
     expect("STREAMOFF", 0, simple(STREAMOFF, 1, 0, 0, 0, 0));
+    expect("DQBUF, stopped", 22, buffer(DQBUF, 0));
     expect("video.accepted", 40, v->accepted);
     expect("video.handed", 40, v->handed);
     expect("video.discarded", 0, v->discarded);

@@ -5,7 +5,7 @@ use crate::recorder::Arrived;
 use std::fmt;
 
 /// The numbers that can be given back. 75 needs 2^32 accepted arrivals in one run, which is out of reach here.
-pub const NUMBERS: [u32; 7] = [0, 11, 14, 16, 22, 34, 75];
+pub const NUMBERS: [u32; 8] = [0, 11, 14, 16, 22, 25, 34, 75];
 
 const ANSWERS: [&str; 5] = ["refused", "ignored", "damaged", "dropped", "stored"];
 const VERDICTS: [&str; 4] = ["RUNNING", "BLANK", "GAPS", "COMPLETE"];
@@ -31,6 +31,16 @@ const EXPECTED: [&[u32]; 17] = [
     &[0, 14, 22],         // S_CROP
 ];
 
+/// Where a DQBUF finds the stream that has nothing wrong in its argument, and the numbers that it can give there.
+#[derive(Clone, Copy)]
+pub enum Stream {
+    Running,
+    Stopped,
+    NoBuffers,
+}
+
+const DEQUEUES: [(&str, &[u32]); 3] = [("DQBUF in run", &[0, 11]), ("- stopped", &[22]), ("- no buffers", &[22])];
+
 type Row = [u64; NUMBERS.len()];
 
 #[derive(Default, Clone)]
@@ -38,6 +48,7 @@ pub struct Coverage {
     pub calls: u64,
     pub sessions: u64,
     requests: [Row; 17],
+    dequeues: [Row; 3],
     unknown: Row,
     openings: Row,
     planes: Row,
@@ -67,6 +78,11 @@ impl Coverage {
             None => &mut self.unknown,
         };
         Coverage::count(row, &mut self.strange, number);
+    }
+
+    /// A DQBUF with nothing wrong in its argument.
+    pub fn dequeue(&mut self, stream: Stream, number: u32) {
+        Coverage::count(&mut self.dequeues[stream as usize], &mut self.strange, number);
     }
 
     pub fn arrival(&mut self, arrived: Arrived) {
@@ -116,7 +132,10 @@ impl Coverage {
         for ((row, expected), (_, name)) in self.requests.iter().zip(EXPECTED).zip(ALL) {
             look(name, row, expected);
         }
-        look("an unknown word", &self.unknown, &[22]);
+        for (row, (name, expected)) in self.dequeues.iter().zip(DEQUEUES) {
+            look(name, row, expected);
+        }
+        look("an unknown word", &self.unknown, &[22, 25]);
         look("an opening", &self.openings, &[0, 22]);
         look("a plane", &self.planes, &[0, 22]);
         look("an arrival", &self.arrivals, &[0, 14, 22]);
@@ -146,7 +165,8 @@ impl fmt::Display for Coverage {
             ("arrival", &self.arrivals),
             ("plane", &self.planes),
         ];
-        for (name, row) in requests.chain(others) {
+        let dequeues = DEQUEUES.iter().map(|(name, _)| *name).zip(&self.dequeues);
+        for (name, row) in requests.chain(dequeues).chain(others) {
             write!(f, "{name:<13}")?;
             for count in row {
                 write!(f, "{count:>9}")?;

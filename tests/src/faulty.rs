@@ -3,7 +3,7 @@
 use crate::model::bytes::{put, put_signed, signed, word};
 use crate::model::control::NEXT;
 use crate::model::words::*;
-use crate::model::Device;
+use crate::model::{Device, Opened};
 use crate::recorder::*;
 
 #[derive(Clone, Copy, Debug, PartialEq)]
@@ -24,10 +24,13 @@ pub enum Fault {
     NextBitKept,
     ReservedNotZero,
     ClosedAnswersLength,
+    ClosedAnswersUnknown,
+    UnknownAnswersInvalid,
+    StoppedAnswersSoon,
     StartForgetsRun,
 }
 
-pub const FAULTS: [Fault; 17] = [
+pub const FAULTS: [Fault; 20] = [
     Fault::NewestOutgoingFirst,
     Fault::VerdictConstant,
     Fault::FailedDequeueCounted,
@@ -44,6 +47,9 @@ pub const FAULTS: [Fault; 17] = [
     Fault::NextBitKept,
     Fault::ReservedNotZero,
     Fault::ClosedAnswersLength,
+    Fault::ClosedAnswersUnknown,
+    Fault::UnknownAnswersInvalid,
+    Fault::StoppedAnswersSoon,
     Fault::StartForgetsRun,
 ];
 
@@ -112,9 +118,13 @@ impl Recorder for Faulty {
 
     fn request(&mut self, request: u32, argument: &mut [u8]) -> u32 {
         let closed = self.device.opened().is_none();
-        if self.fault == Fault::ClosedAnswersLength && closed {
-            let known = ALL.iter().any(|(known, _)| *known == request);
-            return if known && argument.len() != size(request) { 14 } else { 22 };
+        let known = ALL.iter().any(|(known, _)| *known == request);
+        match self.fault {
+            Fault::ClosedAnswersLength if closed && known && argument.len() != size(request) => return 14,
+            Fault::ClosedAnswersUnknown if closed && !known => return 25,
+            Fault::UnknownAnswersInvalid if !known => return 22,
+            Fault::StoppedAnswersSoon if self.stopped_with_buffers(request, argument) => return 11,
+            _ => {}
         }
         if self.fault == Fault::StopKeepsQueues && request == STREAMOFF {
             return self.stop_without_emptying(argument);
@@ -184,6 +194,13 @@ impl Recorder for Faulty {
 }
 
 impl Faulty {
+    /// A DQBUF with nothing wrong in its argument finds buffers and no run.
+    fn stopped_with_buffers(&self, request: u32, argument: &[u8]) -> bool {
+        let well_made = || argument.len() == size(DQBUF) && word(argument, 4) == 1 && word(argument, 48) == 1;
+        let stopped = |opened: &Opened| opened.stream.granted > 0 && !opened.stream.streaming;
+        request == DQBUF && well_made() && self.device.opened().is_some_and(stopped)
+    }
+
     /// The run ends, and the queues stay as they were.
     fn stop_without_emptying(&mut self, argument: &mut [u8]) -> u32 {
         let kept =

@@ -1,10 +1,13 @@
 //! Runs one session on two devices and compares everything that can be seen after every step.
 
-use crate::coverage::Coverage;
+use crate::ask::ask;
+use crate::coverage::{Coverage, Stream};
 use crate::fields;
 use crate::guarded::Guarded;
+use crate::model::bytes::word;
+use crate::model::words::{size, DQBUF, QUERYBUF};
 use crate::random;
-use crate::recorder::{Recorder, IGNORED, REFUSED};
+use crate::recorder::{Recorder, IGNORED, REFUSED, RUNNING};
 use crate::session::{made_length, Arrival, Lent, Session, Step};
 use std::fmt::Debug;
 
@@ -78,8 +81,12 @@ impl Runner {
                 Ok(())
             }
             Step::Request { word, argument } => {
+                let waiting = dequeued_from(expected, *word, argument);
                 let number = self.request(place, *word, argument, expected, tested)?;
                 coverage.request(*word, number);
+                if let Some(stream) = waiting {
+                    coverage.dequeue(stream, number);
+                }
                 Ok(())
             }
             Step::Arrival(arrival) => self.arrival(place, arrival, expected, tested, coverage),
@@ -205,6 +212,20 @@ impl Runner {
             same("plane at the image size", &answer, &tested.plane(size, plane))?;
         }
         Ok(())
+    }
+}
+
+/// How a DQBUF with nothing wrong in its argument finds the stream, told by calls that change nothing.
+fn dequeued_from<R: Recorder>(device: &mut R, request: u32, argument: &[u8]) -> Option<Stream> {
+    if request != DQBUF || argument.len() != size(DQBUF) || word(argument, 4) != 1 || word(argument, 48) != 1 {
+        return None;
+    }
+    if device.verdict() == RUNNING {
+        return Some(Stream::Running);
+    }
+    match ask(device, QUERYBUF, &[(4, 1)]).0 {
+        0 => Some(Stream::Stopped),
+        _ => Some(Stream::NoBuffers),
     }
 }
 

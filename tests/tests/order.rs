@@ -27,7 +27,7 @@ fn flagged() -> Draft {
 
 fn closed<R: Recorder>(device: &mut R) {
     assert_eq!(device.open(&[], 0), 22);
-    // Closed comes before word, length and everything else.
+    // Closed comes before word, length and everything else: an unknown word is not looked at.
     assert_eq!(device.request(G_FMT, &mut []), 22);
     assert_eq!(device.request(UNKNOWN, &mut [0; 204]), 22);
     assert_eq!(device.arrival(&mut [0; 9], &[], 0, 0), Arrived { answer: REFUSED, number: 22, buffer: 0 });
@@ -38,7 +38,7 @@ fn closed<R: Recorder>(device: &mut R) {
 fn words_and_lengths<R: Recorder>(device: &mut R) {
     assert_eq!(device.open(&flagged().bytes(), 1 << 20), 0);
     // An unknown word before a wrong length, a wrong length before a wrong type.
-    assert_eq!(device.request(UNKNOWN, &mut []), 22);
+    assert_eq!(device.request(UNKNOWN, &mut []), 25);
     for (word, _) in ALL {
         assert_eq!(device.request(word, &mut vec![9; size(word) + 1]), 14);
     }
@@ -63,14 +63,21 @@ fn buffers<R: Recorder>(device: &mut R) {
     assert_eq!([dequeue(device, 1, 1), ask(device, STREAMON, &[(0, 1)]).0], [22, 22]);
     assert_eq!(ask(device, STREAMOFF, &[(0, 1)]).0, 0);
     assert_eq!(count(device, 1, 1, 1), 0);
-    // With buffers: type and memory before waiting.
-    assert_eq!([dequeue(device, 2, 1), dequeue(device, 1, 2), dequeue(device, 1, 1)], [22, 22, 11]);
+    // Buffers and no run: nothing to wait for either.
+    assert_eq!([dequeue(device, 2, 1), dequeue(device, 1, 2), dequeue(device, 1, 1)], [22, 22, 22]);
     // The type before the buffers that stand in the way.
     assert_eq!([ask(device, S_FMT, &[(0, 2)]).0, ask(device, S_FMT, &[(0, 1)]).0], [22, 16]);
     assert_eq!(ask(device, TRY_FMT, &[(0, 1)]).0, 0);
     done(device, STREAMON, &[(0, 1)]);
+    // In a run: type and memory before waiting. A stop ends the waiting, and a second STREAMON begins it again.
+    assert_eq!([dequeue(device, 2, 1), dequeue(device, 1, 2), dequeue(device, 1, 1)], [22, 22, 11]);
+    done(device, STREAMOFF, &[(0, 1)]);
+    assert_eq!(dequeue(device, 1, 1), 22);
+    done(device, STREAMON, &[(0, 1)]);
+    assert_eq!(dequeue(device, 1, 1), 11);
     assert_eq!([count(device, 1, 2, 1), count(device, 1, 1, 2), count(device, 1, 1, 1)], [22, 22, 16]);
-    assert_eq!(count(device, 0, 1, 1), 0);
+    // Freeing the buffers ends the run, and the waiting with it.
+    assert_eq!([count(device, 0, 1, 1), dequeue(device, 1, 1)], [0, 22]);
     assert_eq!(ask(device, S_FMT, &[(0, 1)]).0, 0);
 }
 

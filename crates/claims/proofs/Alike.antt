@@ -28,7 +28,7 @@ use Rattle.claims.specs.NoRoom.{NoRoom}
 use Rattle.claims.proofs.Sessions.{paper-more}
 
 -- what holds at first, and with each call more, holds after every list
-every : (P : List Call → Type 0) → P [] → ((h : List Call) (c : Call) → P h → P (more h c)) → (cs : List Call) → P cs
+pub every : (P : List Call → Type 0) → P [] → ((h : List Call) (c : Call) → P h → P (more h c)) → (cs : List Call) → P cs
 every P first on cs = go cs [] first
   where
     go : (cs h : List Call) → P h → P (h ++ cs)

@@ -6,7 +6,7 @@ use lib.Dec.{eqb, leb}
 use lib.ListN.{length}
 use Rattle.wire_read.specs.Words.{wordAt}
 use Rattle.ioctl_table.specs.Table.{requestOf}
-use Rattle.ioctl_table.specs.declared.refusals.Refusal.the-variants.{ArgumentLength, MemoryLength, Closed, UnknownWord, NoSuchIndex, NoSuchControl, NotDequeued, NoBuffers, ControlDisabled, ControlReadOnly, ControlIsButton, BuffersExist, Streaming, ControlGrabbed, OutOfRange, NothingOutgoing, RunFull}
+use Rattle.ioctl_table.specs.declared.refusals.Refusal.the-variants.{ArgumentLength, MemoryLength, Closed, UnknownWord, NoSuchIndex, NoSuchControl, NotDequeued, NoBuffers, NotStreaming, ControlDisabled, ControlReadOnly, ControlIsButton, BuffersExist, Streaming, ControlGrabbed, OutOfRange, NothingOutgoing, RunFull}
 use Rattle.ioctl_table.specs.declared.table.Call.{Call}
 use Rattle.ioctl_table.specs.declared.table.Call.the-variants.{Unknown, Querycap, EnumFmt, GFmt, SFmt, TryFmt, Reqbufs, Querybuf, Qbuf, Dqbuf, Streamon, Streamoff, GCtrl, SCtrl, Queryctrl, Cropcap, GCrop, SCrop}
 use Rattle.sheet_contents.specs.Contents.{formatCount}
@@ -35,7 +35,8 @@ checks Qbuf s d a =
     wrongType a 4 ∷ wrongMemory a 48 ∷ check (leb (d .stream .queues .granted) (wordAt a 0)) NoSuchIndex
     ∷ check (isIncoming (d .stream .queues) (wordAt a 0) || isOutgoing (d .stream .queues) (wordAt a 0)) NotDequeued ∷ []
 checks Dqbuf s d a =
-    wrongType a 4 ∷ wrongMemory a 48 ∷ check (eqb (d .stream .queues .granted) 0) NoBuffers ∷ check (eqb (length (d .stream .queues .outgoing)) 0) NothingOutgoing ∷ []
+    wrongType a 4 ∷ wrongMemory a 48 ∷ check (eqb (d .stream .queues .granted) 0) NoBuffers ∷ check (not (streaming (d .stream))) NotStreaming
+    ∷ check (eqb (length (d .stream .queues .outgoing)) 0) NothingOutgoing ∷ []
 checks Streamon s d a = wrongType a 0 ∷ check (eqb (d .stream .queues .granted) 0) NoBuffers ∷ []
 checks Streamoff s d a = wrongType a 0 ∷ []
 checks GCtrl s d a =

@@ -12,6 +12,7 @@ use Rattle.claims.specs.Calls.Call.{request, arrival}
 use Rattle.claims.specs.Machine.{Session}
 use Rattle.claims.specs.Device.{Kept, takes, goesOn, keptAfter, machineOf, ourDevice}
 use Rattle.claims.specs.Meets.{Meets}
+use Rattle.claims.proofs.Waiting.{stopped-or-idle}
 use Rattle.claims.proofs.Boxes.{Box, opened, next, after, ours}
 use Rattle.claims.proofs.Told.{told-1}
 use Rattle.claims.proofs.Tried.{told-2}
@@ -56,7 +57,7 @@ pub same-machine : machineOf ourDevice ≡ ours
 same-machine = fun-ext λ s. fun-ext λ m. ap (seen (openedOf s (length m) .number)) (fun-ext λ cs. same-after cs (opened s m))
 
 ours-meets : Meets ours
-ours-meets = record { demand-1 = told-1; demand-2 = told-2; demand-3 = told-3; counts = told-counts; answers = told-answers }
+ours-meets = record { demand-1 = told-1; demand-2 = told-2; demand-3 = told-3; counts = told-counts; answers = told-answers; stopped-or-idle = λ s m. stopped-or-idle s m (ours s m) (told-1 s m) }
 
 pub device-meets : Meets (machineOf ourDevice)
 device-meets = subst Meets (sym same-machine) ours-meets

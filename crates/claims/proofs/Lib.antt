@@ -17,3 +17,4 @@ pub mod Answered
 pub mod Sessions
 pub mod Devices
 pub mod Alike
+pub mod Waiting

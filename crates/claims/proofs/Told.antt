@@ -105,7 +105,7 @@ module _ (s : List ℕ) (fits : length s ≤ 2688) (d : State) (p : Paper) (a : 
   same-tests Reqbufs = rw running
   same-tests Querybuf = rw granted
   same-tests Qbuf = rw (queued (wordAt a 0), granted)
-  same-tests Dqbuf = rw (outgoing, granted)
+  same-tests Dqbuf = rw (outgoing, granted, running)
   same-tests Streamon = rw granted
   same-tests Streamoff = refl
   same-tests GCtrl = simp (kept-present s fits, kept-place s fits, kept-control s fits)

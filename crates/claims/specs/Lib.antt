@@ -4,6 +4,7 @@ pub mod Words
 pub mod Table
 pub mod Desk
 pub mod Answers
+pub mod Waiting
 pub mod Meets
 pub mod Device
 pub mod NoRoom

@@ -28,6 +28,7 @@ use Rattle.claims.specs.Machine.{Session, Machine, more, replyIn, NoTrac
 use Rattle.claims.specs.Words.{told, eventsIn, paperIn, handedIn}
 use Rattle.claims.specs.Desk.{deskIn}
 use Rattle.claims.specs.Answers.{answerOn, planeOn}
+use Rattle.claims.specs.Waiting.{StoppedOrIdle}
 use Rattle.claims.specs.Table.{firstNumber, openingTests, requestTests, arrivalTests, refusedBy, arrivedOn, arrivalNumber}
 
 -- ---- demand 1: every call is answered by the table, and a refusal leaves no trace
@@ -196,3 +197,4 @@ pub record Meets (M : Machine) : Type 0 where
   pub demand-3 : (s m : List ℕ) → Demand3 s m (M s m)
   pub counts : (s m : List ℕ) → Counts s (M s m)
   pub answers : (s m : List ℕ) → Answers s m (M s m)
+  pub stopped-or-idle : (s m : List ℕ) → StoppedOrIdle (M s m)

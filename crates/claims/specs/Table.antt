@@ -11,7 +11,7 @@ use Rattle.wire_signed.specs.Signed.{signed}
 use Rattle.ioctl_table.specs.Refusal.{errnoOf}
 use Rattle.ioctl_table.specs.Table.{requestOf}
 use Rattle.ioctl_table.specs.declared.refusals.Refusal.{Refusal}
-use Rattle.ioctl_table.specs.declared.refusals.Refusal.the-variants.{ArgumentLength, MemoryLength, Closed, UnknownWord, WrongType, WrongMemory, NoSuchIndex, NoSuchControl, NotDequeued, NoBuffers, ControlDisabled, ControlReadOnly, ControlIsButton, BuffersExist, Streaming, ControlGrabbed, OutOfRange, NothingOutgoing, RunFull, BadSheet, MemoryTooLong}
+use Rattle.ioctl_table.specs.declared.refusals.Refusal.the-variants.{ArgumentLength, MemoryLength, Closed, UnknownWord, WrongType, WrongMemory, NoSuchIndex, NoSuchControl, NotDequeued, NoBuffers, NotStreaming, ControlDisabled, ControlReadOnly, ControlIsButton, BuffersExist, Streaming, ControlGrabbed, OutOfRange, NothingOutgoing, RunFull, BadSheet, MemoryTooLong}
 use Rattle.ioctl_table.specs.declared.table.Call.{Call as Asked}
 use Rattle.ioctl_table.specs.declared.table.Call.the-variants.{Unknown, Querycap, EnumFmt, GFmt, SFmt, TryFmt, Reqbufs, Querybuf, Qbuf, Dqbuf, Streamon, Streamoff, GCtrl, SCtrl, Queryctrl, Cropcap, GCrop, SCrop}
 use Rattle.sheet_rules.specs.Rules.{goodSheet}
@@ -78,7 +78,8 @@ tests Querybuf s p a = wrongType a 4 ∷ check (leb (p .granted) (wordAt a 0)) N
 tests Qbuf s p a =
     wrongType a 4 ∷ wrongMemory a 48 ∷ check (leb (p .granted) (wordAt a 0)) NoSuchIndex ∷ check (queuedOn p (wordAt a 0)) NotDequeued ∷ []
 tests Dqbuf s p a =
-    wrongType a 4 ∷ wrongMemory a 48 ∷ check (eqb (p .granted) 0) NoBuffers ∷ check (eqb (length (p .outgoing)) 0) NothingOutgoing ∷ []
+    wrongType a 4 ∷ wrongMemory a 48 ∷ check (eqb (p .granted) 0) NoBuffers ∷ check (not (p .running)) NotStreaming
+    ∷ check (eqb (length (p .outgoing)) 0) NothingOutgoing ∷ []
 tests Streamon s p a = wrongType a 0 ∷ check (eqb (p .granted) 0) NoBuffers ∷ []
 tests Streamoff s p a = wrongType a 0 ∷ []
 tests GCtrl s p a =

@@ -5,6 +5,7 @@ ghost use mathlib.Core.Bool.{true};
 ghost use mathlib.Core.List.{List};
 ghost use Prim.Native.Nat.{ℕ};
 ghost use Rattle.claims.specs.Meets.{Demand1, Demand2, Demand3, Counts, Answers, Meets};
+ghost use Rattle.claims.specs.Waiting.{StoppedOrIdle};
 ghost use Rattle.claims.specs.NoRoom.{NoRoom};
 ghost use Rattle.claims.specs.Device.{machineOf, ourDevice};
 
@@ -40,6 +41,13 @@ pub fn counts() -> bool
 // Every call that is accepted, and every plane, is answered by the sheet, the calls before and their answers.
 pub fn answers() -> bool
     ensures { λ r. ⌜ (r ≡ true) × ((s m : List ℕ) → Answers s m (machineOf ourDevice s m)) ⌝ }
+{
+    true
+}
+
+// A DQBUF that is answered 11 is one to be asked again soon: a run is on and there are buffers. Outside a run it gives 22.
+pub fn stopped_or_idle() -> bool
+    ensures { λ r. ⌜ (r ≡ true) × ((s m : List ℕ) → StoppedOrIdle (machineOf ourDevice s m)) ⌝ }
 {
     true
 }

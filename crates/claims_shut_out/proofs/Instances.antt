@@ -1,9 +1,10 @@
 -- The wrong devices have the faults.
 use mathlib.Core.Path.{_≡_, refl, sym, ap, ap₂, _∙_, fun-ext}
-use mathlib.Core.Logic.{_≢_}
+use mathlib.Core.Logic.{_≢_, inr}
 use mathlib.Core.Bool.{Bool, true, false, cond, not, _&&_, false≢true}
 use Prim.Native.Nat.{ℕ, _+_, _-_}
 use native.Mathlib.Omega.{arith}
+use borrow.Author.Tests.{eqb-false}
 use mathlib.Core.List.{List, [], _∷_, _++_, map, append-nil, append-assoc}
 use lib.Dec.{eqb}
 use lib.ListN.{replicate, drop}
@@ -13,7 +14,7 @@ use Rattle.wire_read.specs.Words.{wordAt, le32, bytesOf}
 use Rattle.wire_signed.specs.Signed.{signed, signedAt}
 use Rattle.ioctl_table.specs.Table.{requestOf, callOf, knownWords}
 use Rattle.ioctl_table.specs.declared.table.Call.{Call as Asked}
-use Rattle.ioctl_table.specs.declared.table.Call.the-variants.{SFmt, TryFmt, Reqbufs, Qbuf, Dqbuf, SCrop}
+use Rattle.ioctl_table.specs.declared.table.Call.the-variants.{Unknown, SFmt, TryFmt, Reqbufs, Qbuf, Dqbuf, SCrop}
 use Rattle.stream_words.specs.Stream.{Run}
 use Rattle.stream_run.specs.Stream.{freshRun}
 use Rattle.stream_arrival.specs.declared.Arrival.{Arrival}
@@ -27,14 +28,17 @@ use Rattle.claims.specs.Calls.Reply.{taken}
 use Rattle.claims.specs.Machine.{Session, Machine, Given, more, replyIn}
 use Rattle.claims.specs.Words.{told, openingSize, paperIn}
 use Rattle.claims.specs.Meets.{Demand1}
+use Rattle.claims.specs.Waiting.{Starts, Ends}
 use Rattle.claims.proofs.Devices.{device-meets}
+use Rattle.claims.proofs.Waiting.{now-in-force}
 use Rattle.bench_sheet.specs.Bench.{benchSheet}
-use Rattle.claims_shut_out.specs.Faults.{leftZero, AlwaysComplete, NeverComplete, LaterPretend, OddRefused, FailedCounted, StoredNumbered, YoungestFirst, Out}
-use Rattle.claims_shut_out.specs.Wrong.{ours, raised, leftRaised, telling, place, only, refused, noneIn, echoed, oddOut, answering, filledBy, youngest, praised, blamed, failedIn, withFailed, renumbered, flooded, ifStored, filledOnce, neverOpens, allRefusing, grantsNone, grantsFewer, alwaysRunning, alwaysBlank, alwaysGaps, alwaysComplete, stoppedComplete, neverComplete, idle, laterPretend, uncounted, tryEchoes, oddTried, oddSet, failedCounted, storedNumbered, youngestFirst, Wrong, WrongDevices}
-use Rattle.claims_shut_out.proofs.Played.{buffer, reqbufs, dqbuf, asked, four, at-four}
+use Rattle.claims_shut_out.specs.Faults.{leftZero, AlwaysComplete, NeverComplete, LaterPretend, OddRefused, FailedCounted, StoredNumbered, YoungestFirst, SoonWhenStopped, NeverSoon, Out}
+use Rattle.claims_shut_out.specs.Wrong.{ours, raised, leftRaised, telling, place, only, refused, noneIn, echoed, oddOut, answering, filledBy, youngest, praised, blamed, failedIn, withFailed, renumbered, flooded, ifStored, filledOnce, neverOpens, allRefusing, grantsNone, grantsFewer, alwaysRunning, alwaysBlank, alwaysGaps, alwaysComplete, stoppedComplete, neverComplete, idle, laterPretend, uncounted, tryEchoes, oddTried, oddSet, failedCounted, storedNumbered, youngestFirst, calledOff, soonWhenStopped, neverSoon, unknownInvalid, Wrong, WrongDevices}
+use Rattle.claims_shut_out.proofs.Played.{tenBuffers, buffer, reqbufs, streamon, dqbuf, asked, asks-ten, four, at-four}
 use Rattle.claims_shut_out.proofs.Shut.{dark, dark-long, never-opens, all-refusing, grants-none, grants-fewer, constant-verdict, always-complete, invented-totals, try-echoes, odd-tried, odd-set, left-raised, failed-counted}
 use Rattle.claims_shut_out.proofs.Film.{idle-arrival, later-pretend, stored-numbered, youngest-first}
 use Rattle.claims_shut_out.proofs.Complete.{never-complete}
+use Rattle.claims_shut_out.proofs.Stopped.{soon-when-stopped, waits, never-soon, unknown-invalid}
 
 -- ---- requests
 
@@ -120,26 +124,23 @@ blames s m cs e = false≢true (sym (unfair (ours s m .verdict cs)) ∙ ap isCom
 
 -- ---- the counts
 
--- with buffers and none outgoing a DQBUF gives 11, and is counted
+-- in a run with none outgoing a DQBUF gives 11, and is counted
 module _ (S : Session) (d : Demand1 benchSheet dark S) where
-  gives-11 : S .request (reqbufs ∷ []) 0xC0445611 (buffer 0) .number ≡ 11
-  unfolding requestOf callOf knownWords wordAt le32 bytesOf
-  gives-11 = asked dark dark-long S d (reqbufs ∷ []) (four dark dark-long S d) 0xC0445611 (buffer 0) (at-four dark dark-long S d) refl
+  is-refused : S .request (reqbufs ∷ streamon ∷ []) 0xC0445611 (buffer 0) .number ≢ 0
+  is-refused z = omega (arith, waits S d, z)
 
-  is-refused : S .request (reqbufs ∷ []) 0xC0445611 (buffer 0) .number ≢ 0
-  is-refused z = omega (arith, gives-11, z)
-
-  one-failed : failedIn S [] (reqbufs ∷ dqbuf ∷ []) ≡ 1
+  one-failed : failedIn S [] (reqbufs ∷ streamon ∷ dqbuf ∷ []) ≡ 1
   unfolding requestOf callOf knownWords
-  one-failed = ap (λ (n : ℕ). 0 + (cond (not (eqb n 0)) 1 0 + 0)) gives-11
+  one-failed = ap (λ (n : ℕ). 0 + (0 + (cond (not (eqb n 0)) 1 0 + 0))) (waits S d)
 
-  none-failed : failedIn S [] (reqbufs ∷ []) ≡ 0
+  none-failed : failedIn S [] (reqbufs ∷ streamon ∷ []) ≡ 0
   unfolding requestOf callOf knownWords
   none-failed = refl
 
-  miscounts : withFailed (S .counts (reqbufs ∷ dqbuf ∷ [])) (failedIn S [] (reqbufs ∷ dqbuf ∷ [])) ≢ withFailed (S .counts (reqbufs ∷ [])) (failedIn S [] (reqbufs ∷ []))
+  miscounts : withFailed (S .counts (reqbufs ∷ streamon ∷ dqbuf ∷ [])) (failedIn S [] (reqbufs ∷ streamon ∷ dqbuf ∷ []))
+      ≢ withFailed (S .counts (reqbufs ∷ streamon ∷ [])) (failedIn S [] (reqbufs ∷ streamon ∷ []))
   miscounts e =
-      let same = ap (λ (r : Run). r .handed) (d .kept (reqbufs ∷ []) 0xC0445611 (buffer 0) is-refused .1 [] .counts) in
+      let same = ap (λ (r : Run). r .handed) (d .kept (reqbufs ∷ streamon ∷ []) 0xC0445611 (buffer 0) is-refused .1 [] .counts) in
       let h = ap (λ (r : Run). r .handed) e in
       omega (arith, same, h, one-failed, none-failed)
 
@@ -147,7 +148,36 @@ counts-failed : FailedCounted failedCounted
 unfolding requestOf callOf knownWords
 counts-failed =
     let d : Demand1 benchSheet dark (ours benchSheet dark) = device-meets .demand-1 benchSheet dark in
-    (benchSheet, dark, reqbufs ∷ [], 0xC0445611, buffer 0, refl, is-refused (ours benchSheet dark) d, miscounts (ours benchSheet dark) d)
+    (benchSheet, dark, reqbufs ∷ streamon ∷ [], 0xC0445611, buffer 0, refl, is-refused (ours benchSheet dark) d, miscounts (ours benchSheet dark) d)
+
+-- ---- stopped and idle
+
+-- buffers and no run: ours gives 22, and this one 11
+puts-off : SoonWhenStopped soonWhenStopped
+unfolding requestOf callOf knownWords wordAt le32 bytesOf
+puts-off =
+    let S : Session = ours benchSheet dark in
+    let d : Demand1 benchSheet dark S = device-meets .demand-1 benchSheet dark in
+    let is : S .request (reqbufs ∷ []) 0xC0445611 (buffer 0) .number ≡ 22 = asked dark dark-long S d (reqbufs ∷ []) (four dark dark-long S d) 0xC0445611 (buffer 0) (at-four dark dark-long S d) refl in (
+      benchSheet,
+      dark,
+      reqbufs ∷ [],
+      0xC0445611,
+      buffer 0,
+      now-in-force (soonWhenStopped benchSheet dark) Ends Starts [] 0xC0145608 tenBuffers (inr refl, asks-ten dark dark-long S d),
+      refl,
+      ap (λ (n : ℕ). cond (eqb n 22) 11 n) is,
+    )
+
+-- a number that 22 stands for where it is 11
+never-11 : (n : ℕ) (x : Bool) → eqb n 11 ≡ x → cond x 22 n ≢ 11
+never-11 n true e h = omega (arith, h)
+never-11 n false e h = eqb-false n 11 e h
+
+calls-off : NeverSoon neverSoon
+calls-off s m cs w a e h =
+    let r : Given = ours s m .request cs w a in
+    never-11 (r .number) (eqb (r .number) 11) refl (sym (ap (λ (c : Asked). only Dqbuf calledOff c a r .number) e) ∙ h)
 
 -- ---- arrivals
 
@@ -224,4 +254,7 @@ wrong-devices = record {
   failed-counted = wrong failed-counted failedCounted counts-failed;
   stored-numbered = wrong stored-numbered storedNumbered numbers-stored;
   youngest-first = wrong youngest-first youngestFirst gives-youngest;
+  soon-when-stopped = wrong soon-when-stopped soonWhenStopped puts-off;
+  never-soon = wrong never-soon neverSoon calls-off;
+  unknown-invalid = wrong unknown-invalid unknownInvalid (λ s m cs w a e. ap (λ (call : Asked). only Unknown refused call a (ours s m .request cs w a) .number) e);
 }

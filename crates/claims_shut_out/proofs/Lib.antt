@@ -1,5 +1,6 @@
 pub mod Played
 pub mod Shut
+pub mod Stopped
 pub mod Film
 pub mod Complete
 pub mod Instances

@@ -62,7 +62,7 @@ opening-size : openingSize benchSheet ≡ 614400
 unfolding benchSheet wordAt le32 bytesOf formatsAt formatAt formatCode geometryAt rangeAt widthsOf heightsOf lineAlignment bytesPerPixel halfChroma roundUp bytesPerLine heldHeight firstPlane imageSize openingFormat
 opening-size = refl
 
--- the events of calls, the first of them knownWords
+-- the events of calls, the first of them known
 pub goes : {e : Event} (s : List ℕ) (S : Session) (h : List Call) (c : Call) (cs : List Call) → told (paperIn s S h) c (replyIn S h c) ≡ e
     → eventsIn S h (paperIn s S h) (c ∷ cs) ≡ e ∷ eventsIn S (more h c) (paperIn s S (more h c)) cs
 goes s S h c cs p = events-cons s S h c cs ∙ ap (λ (v : Event). v ∷ eventsIn S (more h c) (paperIn s S (more h c)) cs) p

@@ -89,7 +89,7 @@ grants-fewer M fault meets =
 
 module _ (S : Session) (d : Demand1 benchSheet dark S) where
   -- a run: buffers, then a start
-  runs : paperIn benchSheet S (reqbufs ∷ streamon ∷ []) ≡ step (four dark dark-long S d) begun
+  pub runs : paperIn benchSheet S (reqbufs ∷ streamon ∷ []) ≡ step (four dark dark-long S d) begun
   unfolding requestOf callOf knownWords wordAt le32 bytesOf
   runs = then dark dark-long S d (reqbufs ∷ []) (four dark dark-long S d) 0x40045612 video (at-four dark dark-long S d)
       (asked dark dark-long S d (reqbufs ∷ []) (four dark dark-long S d) 0x40045612 video (at-four dark dark-long S d) refl)

@@ -10,7 +10,7 @@ use Rattle.wire_read.specs.Words.{wordAt, bytesOf}
 use Rattle.wire_signed.specs.Signed.{signedAt}
 use Rattle.ioctl_table.specs.Table.{requestOf}
 use Rattle.ioctl_table.specs.declared.table.Call.{Call as Asked}
-use Rattle.ioctl_table.specs.declared.table.Call.the-variants.{SFmt, TryFmt, Reqbufs, Qbuf, Dqbuf, GCrop, SCrop}
+use Rattle.ioctl_table.specs.declared.table.Call.the-variants.{Unknown, SFmt, TryFmt, Reqbufs, Qbuf, Dqbuf, GCrop, SCrop}
 use Rattle.sheet_geometry.specs.Geometry.{widthsOf}
 use Rattle.grid_rules.specs.Grid.{sizeAt}
 use Rattle.stream_words.specs.Stream.{Run}
@@ -21,6 +21,7 @@ use Rattle.claims.specs.Calls.{Call}
 use Rattle.claims.specs.Calls.Call.{request, arrival}
 use Rattle.claims.specs.Machine.{Machine, more}
 use Rattle.claims.specs.Words.{paperIn}
+use Rattle.claims.specs.Waiting.{Starts, Ends, InForce}
 use Rattle.claims.specs.Meets.{Meets}
 
 -- the argument of S_CROP with left 0 for its left
@@ -100,6 +101,19 @@ module _ (M : Machine) where
       → requestOf w .call ≡ Dqbuf → M s m .request (more cs (arrival f x y other)) w a .number ≡ 0
       → wordAt (M s m .request (more cs (arrival f x y other)) w a .argument) 0 ≡ k
 
+  -- some DQBUF is answered 11 though the run was ended and none begun since: who reads that as "soon" polls for ever
+  abbrev pub SoonWhenStopped : Type 0
+  SoonWhenStopped = (s : List ℕ) × (m : List ℕ) × (cs : List Call) × (w : ℕ) × (a : List ℕ) × InForce (M s m) Ends Starts cs × (requestOf w .call ≡ Dqbuf)
+      × (M s m .request cs w a .number ≡ 11)
+
+  -- no DQBUF is ever answered 11: an idle device passes for a stopped one
+  abbrev pub NeverSoon : Type 0
+  NeverSoon = (s m : List ℕ) (cs : List Call) (w : ℕ) (a : List ℕ) → requestOf w .call ≡ Dqbuf → M s m .request cs w a .number ≢ 11
+
+  -- an unknown word gives 22, like a known one with a wrong argument
+  abbrev pub UnknownInvalid : Type 0
+  UnknownInvalid = (s m : List ℕ) (cs : List Call) (w : ℕ) (a : List ℕ) → requestOf w .call ≡ Unknown → M s m .request cs w a .number ≡ 22
+
 -- a fault that no machine has which meets the demands
 abbrev pub Out : (Machine → Type 0) → Type 0
 Out Fault = (M : Machine) → Fault M → Meets M → ⊥
@@ -122,3 +136,6 @@ pub record ShutOut : Type 0 where
   pub failed-counted : Out FailedCounted
   pub stored-numbered : Out StoredNumbered
   pub youngest-first : Out YoungestFirst
+  pub soon-when-stopped : Out SoonWhenStopped
+  pub never-soon : Out NeverSoon
+  pub unknown-invalid : Out UnknownInvalid

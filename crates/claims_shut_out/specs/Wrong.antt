@@ -26,7 +26,7 @@ use Rattle.claims.specs.Machine.{Session, Machine, Given, more, replyIn}
 use Rattle.claims.specs.Words.{paperIn}
 use Rattle.claims.specs.Meets.{Meets}
 use Rattle.claims.specs.Device.{machineOf, ourDevice}
-use Rattle.claims_shut_out.specs.Faults.{leftZero, NeverOpens, AllRefusing, GrantsNone, GrantsFewer, ConstantVerdict, AlwaysComplete, NeverComplete, IdleArrival, LaterPretend, InventedTotals, TryEchoes, OddRefused, LeftRaised, FailedCounted, StoredNumbered, YoungestFirst}
+use Rattle.claims_shut_out.specs.Faults.{leftZero, NeverOpens, AllRefusing, GrantsNone, GrantsFewer, ConstantVerdict, AlwaysComplete, NeverComplete, IdleArrival, LaterPretend, InventedTotals, TryEchoes, OddRefused, LeftRaised, FailedCounted, StoredNumbered, YoungestFirst, SoonWhenStopped, NeverSoon, UnknownInvalid}
 
 -- our device
 abbrev pub ours : Machine
@@ -182,6 +182,24 @@ youngestFirst s m =
     let S : Session = ours s m in
     withRequest S (λ cs w a. only Dqbuf (λ b r. record { number = r .number; argument = youngest S [] cs 0 ∷ 0 ∷ 0 ∷ 0 ∷ drop 4 (r .argument) }) (requestOf w .call) a (S .request cs w a))
 
+-- a DQBUF that ours refuses with 22 is answered 11
+abbrev pub putOff : List ℕ → Given → Given
+putOff a r = record { number = cond (eqb (r .number) 22) 11 (r .number); argument = r .argument }
+
+abbrev pub soonWhenStopped : Machine
+soonWhenStopped = answering Dqbuf putOff
+
+-- one that ours answers 11 is refused with 22
+abbrev pub calledOff : List ℕ → Given → Given
+calledOff a r = record { number = cond (eqb (r .number) 11) 22 (r .number); argument = r .argument }
+
+abbrev pub neverSoon : Machine
+neverSoon = answering Dqbuf calledOff
+
+-- an unknown word is refused with 22
+abbrev pub unknownInvalid : Machine
+unknownInvalid = answering Unknown refused
+
 -- ---- the verdict and the counts
 
 abbrev pub judging : (Verdict → Verdict) → Machine
@@ -310,3 +328,6 @@ pub record WrongDevices : Type 0 where
   pub failed-counted : Wrong FailedCounted failedCounted
   pub stored-numbered : Wrong StoredNumbered storedNumbered
   pub youngest-first : Wrong YoungestFirst youngestFirst
+  pub soon-when-stopped : Wrong SoonWhenStopped soonWhenStopped
+  pub never-soon : Wrong NeverSoon neverSoon
+  pub unknown-invalid : Wrong UnknownInvalid unknownInvalid

@@ -5,9 +5,9 @@ use Prim.Native.Nat.{ℕ, zero, suc, _<_}
 use native.Mathlib.Omega.{arith}
 use Rattle.ioctl_table.specs.Refusal.{errnoOf, numbered}
 use Rattle.ioctl_table.specs.declared.refusals.Refusal.{Refusal}
-use Rattle.ioctl_table.specs.declared.refusals.Refusal.the-variants.{ArgumentLength, MemoryLength, Closed, UnknownWord, WrongType, WrongMemory, NoSuchIndex, NoSuchControl, NotDequeued, NoBuffers, ControlDisabled, ControlReadOnly, ControlIsButton, BadSheet, MemoryTooLong, NoSuchPlane, BuffersExist, Streaming, ControlGrabbed, OutOfRange, NothingOutgoing, RunFull}
+use Rattle.ioctl_table.specs.declared.refusals.Refusal.the-variants.{ArgumentLength, MemoryLength, Closed, UnknownWord, WrongType, WrongMemory, NoSuchIndex, NoSuchControl, NotDequeued, NoBuffers, NotStreaming, ControlDisabled, ControlReadOnly, ControlIsButton, BadSheet, MemoryTooLong, NoSuchPlane, BuffersExist, Streaming, ControlGrabbed, OutOfRange, NothingOutgoing, RunFull}
 
--- every refusal gives one of the six numbers
+-- every refusal gives one of the seven numbers
 pub errno-known : (r : Refusal) → numbered (errnoOf r) ≡ true
 errno-known ArgumentLength = refl
 errno-known MemoryLength = refl
@@ -19,6 +19,7 @@ errno-known NoSuchIndex = refl
 errno-known NoSuchControl = refl
 errno-known NotDequeued = refl
 errno-known NoBuffers = refl
+errno-known NotStreaming = refl
 errno-known ControlDisabled = refl
 errno-known ControlReadOnly = refl
 errno-known ControlIsButton = refl

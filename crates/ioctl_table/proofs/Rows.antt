@@ -1,4 +1,4 @@
--- What holds of the table of knownWords words, for upper layers to cite. Assumes nothing.
+-- What holds of the table of known words, for upper layers to cite. Assumes nothing.
 use mathlib.Core.Path.{_≡_, refl, sym, ap, subst, _∙_}
 use mathlib.Core.Logic.{_⊎_, ⊎-elim, ⊎-map}
 use mathlib.Core.Bool.{Bool, true, false, false≢true}
@@ -88,7 +88,7 @@ unlisted w none = ⊎-elim (λ u. u) (λ p. absurd (none (p .0) (p .1) (p .2))) 
 pub of-known : (P : ℕ → Type 0) → ((k : ℕ) → k < 17 → P (rowAt k .word)) → (w : ℕ) → (callOf w ≡ Unknown) ⊎ P w
 of-known P each w = ⊎-map (λ u. u) (λ p. subst P (p .2) (each (p .0) (p .1))) (only w)
 
--- the argument of a knownWords word is as long as the word says
+-- the argument of a known word is as long as the word says
 pub size-in-word : (w : ℕ) → (callOf w ≡ Unknown) ⊎ (argumentSize (callOf w) ≡ sizeOf w)
 size-in-word = of-known (λ (w : ℕ). argumentSize (callOf w) ≡ sizeOf w) (λ k h. ap argumentSize (finds k h) ∙ sym (laid-out k h .size))
 
@@ -97,6 +97,6 @@ pub sized-in-word : (w : ℕ) {r : Request} → r ≡ requestOf w → (r .call �
 unfolding requestOf
 sized-in-word w e = rw e (size-in-word w)
 
--- the letter of a knownWords word is V
+-- the letter of a known word is V
 pub letter-in-word : (w : ℕ) → (callOf w ≡ Unknown) ⊎ (letterOf w ≡ 0x56)
 letter-in-word = of-known (λ (w : ℕ). letterOf w ≡ 0x56) (λ k h. laid-out k h .letter)

@@ -4,7 +4,7 @@ use mathlib.Core.List.{List, [], _∷_}
 use Prim.Native.Nat.{ℕ}
 use lib.Dec.{eqb}
 use Rattle.ioctl_table.specs.declared.refusals.Refusal.{Refusal}
-use Rattle.ioctl_table.specs.declared.refusals.Refusal.the-variants.{ArgumentLength, MemoryLength, Closed, UnknownWord, WrongType, WrongMemory, NoSuchIndex, NoSuchControl, NotDequeued, NoBuffers, ControlDisabled, ControlReadOnly, ControlIsButton, BadSheet, MemoryTooLong, NoSuchPlane, BuffersExist, Streaming, ControlGrabbed, OutOfRange, NothingOutgoing, RunFull}
+use Rattle.ioctl_table.specs.declared.refusals.Refusal.the-variants.{ArgumentLength, MemoryLength, Closed, UnknownWord, WrongType, WrongMemory, NoSuchIndex, NoSuchControl, NotDequeued, NoBuffers, NotStreaming, ControlDisabled, ControlReadOnly, ControlIsButton, BadSheet, MemoryTooLong, NoSuchPlane, BuffersExist, Streaming, ControlGrabbed, OutOfRange, NothingOutgoing, RunFull}
 
 -- the number that is given back for a refusal, under the reason for it
 abbrev pub errnoOf : Refusal → ℕ
@@ -15,7 +15,7 @@ errnoOf MemoryLength = 14
 -- the device is closed, since its opening was refused
 errnoOf Closed = 22
 -- the word is none of the seventeen
-errnoOf UnknownWord = 22
+errnoOf UnknownWord = 25
 -- the type named is not 1, video capture
 errnoOf WrongType = 22
 -- the kind of memory named is not 1, the only kind there is
@@ -28,6 +28,8 @@ errnoOf NoSuchControl = 22
 errnoOf NotDequeued = 22
 -- there are no buffers to stream into or to hand out
 errnoOf NoBuffers = 22
+-- there are buffers, and no run is on in which one could be filled
+errnoOf NotStreaming = 22
 -- the control is disabled: its value can be neither read nor set
 errnoOf ControlDisabled = 22
 -- the control can be read and not set
@@ -48,7 +50,7 @@ errnoOf Streaming = 16
 errnoOf ControlGrabbed = 16
 -- the value is below the least or above the greatest of the control
 errnoOf OutOfRange = 34
--- there are buffers, and none is filled and waiting
+-- a run is on, and no buffer is filled and waiting
 errnoOf NothingOutgoing = 11
 -- the run has accepted all the arrivals that it can number
 errnoOf RunFull = 75
@@ -60,4 +62,4 @@ anyOf n (x ∷ xs) = eqb x n || anyOf n xs
 
 -- the number is one that a refusal can give
 abbrev pub numbered : ℕ → Bool
-numbered n = anyOf n (11 ∷ 14 ∷ 16 ∷ 22 ∷ 34 ∷ 75 ∷ [])
+numbered n = anyOf n (11 ∷ 14 ∷ 16 ∷ 22 ∷ 25 ∷ 34 ∷ 75 ∷ [])

@@ -1,4 +1,4 @@
--- The seventeen knownWords request words, and what each asks for.
+-- The seventeen known request words, and what each asks for.
 use mathlib.Core.Bool.{cond}
 use mathlib.Core.List.{List, [], _∷_}
 use Prim.Native.Nat.{ℕ}

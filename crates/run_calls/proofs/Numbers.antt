@@ -56,9 +56,12 @@ module _ (s : Stream) (kind size : ℕ) (a : List ℕ) where
       memory-by (not (eqb (wordAt a 48) 1)) s a _ _
       (reply-by (leb (s .queues .granted) (wordAt a 0)) _ _ _ (reply-by (isIncoming (s .queues) (wordAt a 0) || isOutgoing (s .queues) (wordAt a 0)) _ _ 0 refl))
 
-  pub dqbuf-number : dqbufOf s kind size a .number ≡ cond (not (eqb (wordAt a 48) 1)) 22 (cond (eqb (s .queues .granted) 0) 22 (cond (eqb (length (s .queues .outgoing)) 0) 11 0))
+  pub dqbuf-number : dqbufOf s kind size a .number
+      ≡ cond (not (eqb (wordAt a 48) 1)) 22 (cond (eqb (s .queues .granted) 0) 22 (cond (not (streaming s)) 22 (cond (eqb (length (s .queues .outgoing)) 0) 11 0)))
   unfolding dqbufOf dequeueOf
-  dqbuf-number = memory-by (not (eqb (wordAt a 48) 1)) s a _ _ (reply-by (eqb (s .queues .granted) 0) _ _ _ (handed-number s (s .queues .outgoing)))
+  dqbuf-number =
+      memory-by (not (eqb (wordAt a 48) 1)) s a _ _
+      (reply-by (eqb (s .queues .granted) 0) _ _ _ (reply-by (not (streaming s)) _ _ _ (handed-number s (s .queues .outgoing))))
 
   pub streamon-number : streamonOf s kind size a .number ≡ cond (eqb (s .queues .granted) 0) 22 0
   unfolding streamonOf startOf

@@ -9,7 +9,7 @@ use lib.ListN.{length}
 use lib.Seq.{sets, length-sets}
 use Rattle.wire_read.specs.Words.{wordAt}
 use Rattle.ioctl_table.specs.Refusal.{errnoOf}
-use Rattle.ioctl_table.specs.declared.refusals.Refusal.the-variants.{WrongMemory, NoSuchIndex, NotDequeued, NoBuffers, Streaming}
+use Rattle.ioctl_table.specs.declared.refusals.Refusal.the-variants.{WrongMemory, NoSuchIndex, NotDequeued, NoBuffers, NotStreaming, Streaming}
 use Rattle.stream_words.specs.declared.Filled.{Filled}
 use Rattle.stream_words.specs.Stream.{Stream}
 use Rattle.stream_words.specs.Moves.{isIncoming, isOutgoing, oldestOf}
@@ -75,15 +75,16 @@ module _ (s : Stream) (a : List ℕ) where
 
     pub dqbuf-honest : HonestStream s a (dqbufOf s kind size a)
     unfolding dqbufOf dequeueOf
-    dqbuf-honest = memory-honest (not (eqb (wordAt a 48) 1)) _ (go (eqb (s .queues .granted) 0) (s .queues .outgoing))
+    dqbuf-honest = memory-honest (not (eqb (wordAt a 48) 1)) _ (go (eqb (s .queues .granted) 0) (not (streaming s)) (s .queues .outgoing))
       where
-        t : Bool → List Filled → Step
-        t x o = cond x (refuses NoBuffers s) (handedOver (oldestOf o) s)
+        t : Bool → Bool → List Filled → Step
+        t x y o = cond x (refuses NoBuffers s) (cond y (refuses NotStreaming s) (handedOver (oldestOf o) s))
 
-        go : (x : Bool) (o : List Filled) → HonestStream s a (stepped (t x o) (dequeueReply (t x o .reply) kind size a))
-        go true o = refused-honest _
-        go false [] = refused-honest _
-        go false (f ∷ o) = done-honest _ (bufferReply kind (returnedOf f size))
+        go : (x y : Bool) (o : List Filled) → HonestStream s a (stepped (t x y o) (dequeueReply (t x y o .reply) kind size a))
+        go true y o = refused-honest _
+        go false true o = refused-honest _
+        go false false [] = refused-honest _
+        go false false (f ∷ o) = done-honest _ (bufferReply kind (returnedOf f size))
 
     pub streamon-honest : HonestStream s a (streamonOf s kind size a)
     unfolding streamonOf startOf

@@ -19,7 +19,7 @@ fn main() {
         3c. A frame is stored, and the run stopped before anyone took it\n\
             1048576B 300x225f 10r 0q 1q s 1x0w 0b o v 0b d 2x40000w v\n\
         3d. No frame arrives whole, and a client counts failed dequeues\n\
-            1048576B 300x225f 10r 0q 1q s 1x0h d 2x40000h d 3x80000h d 4x120000h d 5x160000h d # o v\n\
+            1048576B 300x225f 10r 0q 1q s 1x0h d 2x40000h d 3x80000h d 4x120000h d 5x160000h d # o d v\n\
         4a. One frame stored and handed over\n\
             1048576B 300x225f 10r 0q 1q s 1x0w d o v\n\
         4b. One frame stored, then stopped\n\

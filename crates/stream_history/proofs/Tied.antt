@@ -11,7 +11,7 @@ use lib.Dec.{leb, eqb}
 use mathlib.Core.List.{List, [], _∷_, _++_, map}
 use lib.ListN.{length, take, drop, length-map}
 use lib.Seq.{sets, length-sets}
-use Rattle.ioctl_table.specs.declared.refusals.Refusal.the-variants.{NoSuchIndex, NotDequeued, NoBuffers, Streaming, NothingOutgoing, BuffersExist, MemoryLength, RunFull}
+use Rattle.ioctl_table.specs.declared.refusals.Refusal.the-variants.{NoSuchIndex, NotDequeued, NoBuffers, NotStreaming, Streaming, NothingOutgoing, BuffersExist, MemoryLength, RunFull}
 use Rattle.wire_read.proofs.Parts.{part-before, part-behind, part-stored}
 use Rattle.stream_words.specs.declared.Time.{Time}
 use Rattle.stream_words.specs.declared.Filled.{Filled}
@@ -227,15 +227,16 @@ follows-handed w p (x ∷ o) e t s =
 
 follows-dequeue : (w : World) (p : Paper) → Tied w p → Sound p → Follows (next w dequeue) p dequeue (answer w dequeue)
 unfolding dequeueOf
-follows-dequeue w p t s = go (eqb (w .stream .queues .granted) 0)
+follows-dequeue w p t s = go (eqb (w .stream .queues .granted) 0) (not (streaming (w .stream)))
   where
-    r : Bool → List Filled → Step
-    r a o = cond a (refuses NoBuffers (w .stream)) (handedOver (oldestOf o) (w .stream))
+    r : Bool → Bool → List Filled → Step
+    r a b o = cond a (refuses NoBuffers (w .stream)) (cond b (refuses NotStreaming (w .stream)) (handedOver (oldestOf o) (w .stream)))
 
-    go : (a : Bool) → Follows (withStream w (r a (w .stream .queues .outgoing) .stream)) p dequeue (replied (r a (w .stream .queues .outgoing) .reply))
-    go true = nothing w p dequeue (replied (Refused NoBuffers)) t refl
-    go false =
-        subst (λ (o : List Filled). Follows (withStream w (r false o .stream)) p dequeue (replied (r false o .reply))) (sym (t .holds .outs)) (follows-handed w p (p .outgoing) refl t s)
+    go : (a b : Bool) → Follows (withStream w (r a b (w .stream .queues .outgoing) .stream)) p dequeue (replied (r a b (w .stream .queues .outgoing) .reply))
+    go true b = nothing w p dequeue (replied (Refused NoBuffers)) t refl
+    go false true = nothing w p dequeue (replied (Refused NotStreaming)) t refl
+    go false false =
+        subst (λ (o : List Filled). Follows (withStream w (r false false o .stream)) p dequeue (replied (r false false o .reply))) (sym (t .holds .outs)) (follows-handed w p (p .outgoing) refl t s)
 
 -- ---- a run begins and ends
 

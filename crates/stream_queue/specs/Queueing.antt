@@ -1,8 +1,8 @@
 -- A buffer is handed in, or handed over: what the call answers, and the stream after it. The first test that holds decides.
 use Prim.Native.Nat.{ℕ}
-use mathlib.Core.Bool.{cond, _||_}
+use mathlib.Core.Bool.{cond, not, _||_}
 use lib.Dec.{eqb, leb}
-use Rattle.ioctl_table.specs.declared.refusals.Refusal.the-variants.{NoSuchIndex, NotDequeued, NoBuffers, NothingOutgoing}
+use Rattle.ioctl_table.specs.declared.refusals.Refusal.the-variants.{NoSuchIndex, NotDequeued, NoBuffers, NotStreaming, NothingOutgoing}
 use Rattle.stream_words.specs.declared.Oldest.{Oldest}
 use Rattle.stream_words.specs.declared.Oldest.the-variants.{Empty, Frame}
 use Rattle.stream_words.specs.Stream.{Stream, onQueues}
@@ -23,6 +23,9 @@ abbrev pub handedOver : Oldest → Stream → Step
 handedOver Empty s = refuses NothingOutgoing s
 handedOver (Frame f) s = answers (Returned f) (record { length = s .length; streaming = s .streaming; run = handedRun (s .run); queues = popped (s .queues) })
 
--- DQBUF: with buffers, and a frame held
+-- DQBUF: with buffers, in a run, and a frame held
 unfoldable pub dequeueOf : Stream → Step
-dequeueOf s = cond (eqb (s .queues .granted) 0) (refuses NoBuffers s) (handedOver (oldestOf (s .queues .outgoing)) s)
+dequeueOf s =
+    cond (eqb (s .queues .granted) 0) (refuses NoBuffers s)
+    (cond (not (streaming s)) (refuses NotStreaming s)
+    (handedOver (oldestOf (s .queues .outgoing)) s))

@@ -8,6 +8,7 @@ use stream_run::Reply;
 use stream_words::GRANTED;
 use stream_words::HANDED;
 use stream_words::Oldest;
+use stream_words::STREAMING;
 use stream_words::Words;
 
 // Buffer k is handed in.
@@ -30,6 +31,9 @@ pub fn dequeue(s: &mut Words) -> Reply
 {
     if s[GRANTED] == 0 {
         return Reply::Refused(Refusal::NoBuffers);
+    }
+    if s[STREAMING] == 0 {
+        return Reply::Refused(Refusal::NotStreaming);
     }
     let Oldest::Frame(f) = stream_line::oldest_outgoing(s) else {
         return Reply::Refused(Refusal::NothingOutgoing);

@@ -5,6 +5,7 @@ pub const EAGAIN: u32 = 11;
 pub const EFAULT: u32 = 14;
 pub const EBUSY: u32 = 16;
 pub const EINVAL: u32 = 22;
+pub const ENOTTY: u32 = 25;
 pub const ERANGE: u32 = 34;
 pub const EOVERFLOW: u32 = 75;
 

@@ -5,7 +5,7 @@ use super::bytes::{put, put_signed, signed, word};
 use super::control::{self, BUTTON};
 use super::crop::Rectangle;
 use super::format::Picture;
-use super::numbers::{refuse, Outcome, EAGAIN, EBUSY, EFAULT, EINVAL};
+use super::numbers::{refuse, Outcome, EAGAIN, EBUSY, EFAULT, EINVAL, ENOTTY};
 use super::words::*;
 use super::Opened;
 
@@ -47,7 +47,7 @@ impl Opened {
             CROPCAP => self.cropcap(sized(argument)?),
             G_CROP => self.g_crop(sized(argument)?),
             S_CROP => self.s_crop(sized(argument)?),
-            _ => Err(EINVAL),
+            _ => Err(ENOTTY),
         }
     }
 
@@ -136,11 +136,12 @@ impl Opened {
         Ok(())
     }
 
-    /// Hands over the oldest outgoing buffer; an attempt that finds none is not counted.
+    /// Hands over the oldest outgoing buffer. In a run an attempt that finds none is to be made again, and is not counted;
+    /// outside of one there is nothing to wait for.
     fn dqbuf(&mut self, argument: &mut [u8; 68]) -> Outcome {
         check_type(argument, 4)?;
         check_memory(argument, 48)?;
-        refuse(self.stream.granted == 0, EINVAL)?;
+        refuse(self.stream.granted == 0 || !self.stream.streaming, EINVAL)?;
         let index = self.stream.outgoing.take().ok_or(EAGAIN)?;
         let frame = match self.stream.places[index] {
             Place::Outgoing(frame) => Some(frame),

@@ -2,6 +2,7 @@ use mathlib.Core.Path.{refl}
 use Rattle.claims_shut_out.proofs.Shut.{never-opens, all-refusing, grants-none, grants-fewer, constant-verdict, always-complete, invented-totals, try-echoes, odd-tried, odd-set, left-raised, failed-counted}
 use Rattle.claims_shut_out.proofs.Film.{idle-arrival, later-pretend, stored-numbered, youngest-first}
 use Rattle.claims_shut_out.proofs.Complete.{never-complete}
+use Rattle.claims_shut_out.proofs.Stopped.{soon-when-stopped, never-soon, unknown-invalid}
 use Rattle.claims_shut_out.proofs.shut_out.Statement.{statement}
 use Rattle.claims_shut_out.proofs.shut_out.Tie as tie
 
@@ -26,6 +27,9 @@ returns c = (
     failed-counted = failed-counted;
     stored-numbered = stored-numbered;
     youngest-first = youngest-first;
+    soon-when-stopped = soon-when-stopped;
+    never-soon = never-soon;
+    unknown-invalid = unknown-invalid;
   },
 )
 

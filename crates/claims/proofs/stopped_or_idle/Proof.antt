@@ -1,0 +1,10 @@
+use mathlib.Core.Path.{refl}
+use Rattle.claims.proofs.Devices.{device-meets}
+use Rattle.claims.proofs.stopped_or_idle.Statement.{statement}
+use Rattle.claims.proofs.stopped_or_idle.Tie as tie
+
+returns : tie.Need-returns
+returns c = (refl, device-meets .stopped-or-idle)
+
+pub stopped-or-idle-spec : {M : Type 1} → statement M
+stopped-or-idle-spec = tie.close (tie.spec returns)
