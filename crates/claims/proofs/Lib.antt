@@ -17,4 +17,6 @@ pub mod Answered
 pub mod Sessions
 pub mod Devices
 pub mod Alike
+pub mod InForce
+pub mod Switched
 pub mod Waiting

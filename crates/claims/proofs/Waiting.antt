@@ -4,329 +4,112 @@ use mathlib.Core.Logic.{_≢_, _⊎_, inl, inr, ⊎-elim, ⊎-map}
 use mathlib.Core.Bool.{Bool, true, false, cond, not, false≢true, true≢false}
 use Prim.Native.Nat.{ℕ, _<_}
 use native.Mathlib.Omega.{arith}
-use borrow.Author.Tests.{eqb-true, eqb-false, eq-eqb}
+use borrow.Author.Tests.{eqb-false}
 use lib.Dec.{eqb}
-use mathlib.Core.List.{List, [], _∷_, _++_, append-nil, append-assoc, head-eq-of-cons-eq, tail-eq-of-cons-eq, nil≢cons}
+use mathlib.Core.List.{List, [], _∷_, _++_, append-nil, append-assoc}
 use lib.ListN.{length}
 use Rattle.wire_read.specs.Words.{wordAt}
 use Rattle.ioctl_table.specs.Table.{argumentSize, requestOf}
 use Rattle.ioctl_table.specs.declared.refusals.Refusal.the-variants.{ArgumentLength, Closed, UnknownWord, NoBuffers, NotStreaming, NothingOutgoing}
 use Rattle.ioctl_table.specs.declared.table.Call.{Call as Asked}
-use Rattle.ioctl_table.specs.declared.table.Call.the-variants.{Unknown, Querycap, EnumFmt, GFmt, SFmt, TryFmt, Reqbufs, Querybuf, Qbuf, Dqbuf, Streamon, Streamoff, GCtrl, SCtrl, Queryctrl, Cropcap, GCrop, SCrop}
-use Rattle.picture_rules.specs.Picture.{wholePicture}
-use Rattle.stream_history.specs.Paper.{Paper, step, refusedArrival}
-use Rattle.stream_history.specs.Paper.Event.{whole, damaged, begun, idle}
-use Rattle.claims.specs.Calls.{Call, arrivalTime}
-use Rattle.claims.specs.Calls.Call.{request, arrival}
+use Rattle.ioctl_table.specs.declared.table.Call.the-variants.{Dqbuf, Streamon}
+use Rattle.stream_history.specs.Paper.{Paper}
+use Rattle.claims.specs.Calls.{Call}
+use Rattle.claims.specs.Calls.Call.{request}
 use Rattle.claims.specs.Machine.{Session, more}
-use Rattle.claims.specs.Words.{requestTold, paperIn}
+use Rattle.claims.specs.Words.{paperIn}
 use Rattle.claims.specs.Table.{check, wrongType, wrongMemory, firstNumber, tests}
 use Rattle.claims.specs.Meets.{Demand1}
 use Rattle.claims.specs.Waiting.{Starts, Ends, Grants, Accepted, NoneOf, InForce, RunOn, BuffersExist, StoppedOrIdle}
-use Rattle.claims.proofs.Sessions.{paper-more, told-request}
 use Rattle.claims.proofs.Alike.{every}
-
--- ---- lists
-
-not-empty : {A : Type 0} (x : List A) (e : A) (y : List A) → [] ≡ x ++ e ∷ y → ⊥
-not-empty [] e y h = absurd (nil≢cons h)
-not-empty (d ∷ x) e y h = absurd (nil≢cons h)
-
--- an element of a list with one more at its end is that one, or one of the list
-at-end : {A : Type 0} (b x : List A) (c e : A) (y : List A) → b ++ (c ∷ []) ≡ x ++ e ∷ y → ((x ≡ b) × (c ≡ e)) ⊎ ((z : List A) × (b ≡ x ++ e ∷ z))
-at-end [] [] c e y h = inl (refl, head-eq-of-cons-eq h)
-at-end [] (d ∷ x) c e y h = absurd (not-empty x e y (tail-eq-of-cons-eq h))
-at-end (d ∷ b) [] c e y h = inr (b, ap (λ v. v ∷ b) (head-eq-of-cons-eq h))
-at-end (d ∷ b) (f ∷ x) c e y h =
-    ⊎-map (λ q. (ap₂ (λ v l. v ∷ l) (sym (head-eq-of-cons-eq h)) (q .0), q .1)) (λ q. (q .0, ap₂ (λ v l. v ∷ l) (head-eq-of-cons-eq h) (q .1)))
-    (at-end b x c e y (tail-eq-of-cons-eq h))
-
--- ---- what a call means for a run and for the buffers
-
-data Kind : Type 0 where
-  start : Kind
-  stop : Kind
-  ask : Kind
-  neither : Kind
-
-abbrev runBy : Kind → Bool → Bool
-runBy start on = true
-runBy stop on = false
-runBy ask on = false
-runBy neither on = on
-
-abbrev grantBy : Kind → ℕ → ℕ → ℕ
-grantBy start told n = n
-grantBy stop told n = n
-grantBy ask told n = told
-grantBy neither told n = n
-
--- the call of a kind that is not the last
-abbrev Of : Kind → Asked → Type 0
-Of start c = c ≡ Streamon
-Of stop c = c ≡ Streamoff
-Of ask c = c ≡ Reqbufs
-Of neither c = (Starts c → ⊥) × (Ends c → ⊥)
-
--- What an accepted request does.
-record Does (c : Asked) : Type 0 where
-  kind : Kind
-  of : Of kind c
-  run : (p : Paper) (a b : List ℕ) → step p (requestTold p c a b) .running ≡ runBy kind (p .running)
-  buffers : (p : Paper) (a b : List ℕ) → step p (requestTold p c a b) .granted ≡ grantBy kind (wordAt b 0) (p .granted)
-
-started : (p : Paper) (x : Bool) → p .running ≡ x → step p (cond x idle begun) .running ≡ true
-started p true e = e
-started p false e = refl
-
-started-buffers : (p : Paper) (x : Bool) → step p (cond x idle begun) .granted ≡ p .granted
-started-buffers p true = refl
-started-buffers p false = refl
-
--- the calls that begin or end a run, told apart
-abbrev turns : Asked → ℕ
-turns Unknown = 0
-turns Querycap = 0
-turns EnumFmt = 0
-turns GFmt = 0
-turns SFmt = 0
-turns TryFmt = 0
-turns Reqbufs = 3
-turns Querybuf = 0
-turns Qbuf = 0
-turns Dqbuf = 0
-turns Streamon = 1
-turns Streamoff = 2
-turns GCtrl = 0
-turns SCtrl = 0
-turns Queryctrl = 0
-turns Cropcap = 0
-turns GCrop = 0
-turns SCrop = 0
-
--- one that does neither, and nothing to the buffers
-quiet : (c : Asked) → turns c ≡ 0 → ((p : Paper) (a b : List ℕ) → step p (requestTold p c a b) .running ≡ p .running)
-    → ((p : Paper) (a b : List ℕ) → step p (requestTold p c a b) .granted ≡ p .granted) → Does c
-quiet c k r g = record { kind = neither; of = (turned Streamon (omega arith), ⊎-elim (turned Streamoff (omega arith)) (turned Reqbufs (omega arith))); run = r; buffers = g }
-  where
-    turned : (d : Asked) → 0 < turns d → c ≡ d → ⊥
-    turned d t e = omega (arith, t, k, ap turns e)
-
-does : (c : Asked) → Does c
-does Unknown = quiet Unknown refl (λ p a b. refl) (λ p a b. refl)
-does Querycap = quiet Querycap refl (λ p a b. refl) (λ p a b. refl)
-does EnumFmt = quiet EnumFmt refl (λ p a b. refl) (λ p a b. refl)
-does GFmt = quiet GFmt refl (λ p a b. refl) (λ p a b. refl)
-does SFmt = quiet SFmt refl (λ p a b. refl) (λ p a b. refl)
-does TryFmt = quiet TryFmt refl (λ p a b. refl) (λ p a b. refl)
-does Reqbufs = record { kind = ask; of = refl; run = λ p a b. refl; buffers = λ p a b. refl }
-does Querybuf = quiet Querybuf refl (λ p a b. refl) (λ p a b. refl)
-does Qbuf = quiet Qbuf refl (λ p a b. refl) (λ p a b. refl)
-does Dqbuf = quiet Dqbuf refl (λ p a b. refl) (λ p a b. refl)
-does Streamon = record { kind = start; of = refl; run = λ p a b. started p (p .running) refl; buffers = λ p a b. started-buffers p (p .running) }
-does Streamoff = record { kind = stop; of = refl; run = λ p a b. refl; buffers = λ p a b. refl }
-does GCtrl = quiet GCtrl refl (λ p a b. refl) (λ p a b. refl)
-does SCtrl = quiet SCtrl refl (λ p a b. refl) (λ p a b. refl)
-does Queryctrl = quiet Queryctrl refl (λ p a b. refl) (λ p a b. refl)
-does Cropcap = quiet Cropcap refl (λ p a b. refl) (λ p a b. refl)
-does GCrop = quiet GCrop refl (λ p a b. refl) (λ p a b. refl)
-does SCrop = quiet SCrop refl (λ p a b. refl) (λ p a b. refl)
-
--- ---- a call of one kind, and none of the other since
-
-module _ (S : Session) (Kind Other : Asked → Type 0) where
-  -- the calls up to it, and those since
-  put-together : (cs : List Call) (r : InForce S Kind Other cs) → more (r .front) (request (r .word) (r .argument)) ++ r .back ≡ cs
-  put-together cs r = append-assoc (r .front) (request (r .word) (r .argument) ∷ []) (r .back) ∙ sym (r .is)
-
-  -- the call was the last
-  pub now-in-force : (h : List Call) (w : ℕ) (a : List ℕ) → Accepted S Kind h w a → InForce S Kind Other (more h (request w a))
-  now-in-force h w a e = record {
-    front = h;
-    word = w;
-    argument = a;
-    back = [];
-    is = refl;
-    accepted = e;
-    since = λ x v b y q o. not-empty x (request v b) y q;
-  }
-
-  -- one call more, which is none of the other kind
-  still-in-force : (h : List Call) (c : Call) (r : InForce S Kind Other h) → ((w : ℕ) (a : List ℕ) → c ≡ request w a → Accepted S Other h w a → ⊥) → InForce S Kind Other (more h c)
-  still-in-force h c r none = record {
-    front = r .front;
-    word = r .word;
-    argument = r .argument;
-    back = more (r .back) c;
-    is = ap (λ (l : List Call). more l c) (r .is) ∙ append-assoc (r .front) (request (r .word) (r .argument) ∷ r .back) (c ∷ []);
-    accepted = r .accepted;
-    since = λ x w a y q o. ⊎-elim
-        (λ e. none w a (e .1) (subst (λ (l : List Call). Accepted S Other l w a) (ap (λ (l : List Call). more (r .front) (request (r .word) (r .argument)) ++ l) (e .0) ∙ put-together h r) o))
-        (λ e. r .since x w a (e .0) (e .1) o)
-        (at-end (r .back) x c (request w a) y q);
-  }
-
--- ---- what a call does
-
-abbrev isRequest : Call → Bool
-isRequest (request w a) = true
-isRequest (arrival f x y other) = false
-
-abbrev callIn : Call → Asked
-callIn (request w a) = requestOf w .call
-callIn (arrival f x y other) = Unknown
-
-abbrev numberOf : Session → List Call → Call → ℕ
-numberOf S h (request w a) = S .request h w a .number
-numberOf S h (arrival f x y other) = 0
-
-module _ (s : List ℕ) (S : Session) where
-  -- A call: an accepted request does what its call says, and every other call nothing.
-  data Done (h : List Call) (c : Call) : Type 0 where
-    accepts : (w : ℕ) (a : List ℕ) → c ≡ request w a → S .request h w a .number ≡ 0
-        → paperIn s S (more h c) ≡ step (paperIn s S h) (requestTold (paperIn s S h) (requestOf w .call) a (S .request h w a .argument)) → Done h c
-    passes : ((w : ℕ) (a : List ℕ) → c ≡ request w a → S .request h w a .number ≢ 0) → paperIn s S (more h c) .running ≡ paperIn s S h .running
-        → paperIn s S (more h c) .granted ≡ paperIn s S h .granted → Done h c
-
-  done-request : (h : List Call) (w : ℕ) (a : List ℕ) (b : Bool) → eqb (S .request h w a .number) 0 ≡ b → Done h (request w a)
-  done-request h w a true e =
-      let p : Paper = paperIn s S h in
-      let z : S .request h w a .number ≡ 0 = eqb-true (S .request h w a .number) 0 e in
-      accepts w a refl z (paper-more s S h (request w a) ∙ ap (step p) (told-request S h p w a z))
-  done-request h w a false e =
-      let p : Paper = paperIn s S h in
-      let same : paperIn s S (more h (request w a)) ≡ p =
-      paper-more s S h (request w a) ∙ ap (λ (b : Bool). step p (cond b (requestTold p (requestOf w .call) a (S .request h w a .argument)) idle)) e in
-      passes (λ v b q z. false≢true (sym e ∙ eq-eqb (S .request h w a .number) 0 (ap (numberOf S h) q ∙ z))) (ap (λ (q : Paper). q .running) same) (ap (λ (q : Paper). q .granted) same)
-
-  done-arrival : (h : List Call) (f : List ℕ) (x y : ℕ) (other : List ℕ) → Done h (arrival f x y other)
-  done-arrival h f x y other =
-      let told = paper-more s S h (arrival f x y other) in
-      let (r, g) = go (refusedArrival (S .arrival h f x y other)) (p .running) (wholePicture (length f) (p .size) (arrivalTime x y)) in
-      passes (λ w a q z. false≢true (ap isRequest q)) (ap (λ (q : Paper). q .running) told ∙ r) (ap (λ (q : Paper). q .granted) told ∙ g)
-    where
-      p : Paper
-      p = paperIn s S h
-
-      after : Bool → Bool → Bool → Paper
-      after u v z = step p (cond u idle (cond v (cond z (whole f (arrivalTime x y)) damaged) idle))
-
-      go : (u v z : Bool) → (after u v z .running ≡ p .running) × (after u v z .granted ≡ p .granted)
-      go true v z = (refl, refl)
-      go false true true = (refl, refl)
-      go false true false = (refl, refl)
-      go false false z = (refl, refl)
-
-  done : (h : List Call) (c : Call) → Done h c
-  done h (request w a) = done-request h w a (eqb (S .request h w a .number) 0) refl
-  done h (arrival f x y other) = done-arrival h f x y other
-
-  -- a request that is accepted, by its kind
-  run-after : (h : List Call) (w : ℕ) (a : List ℕ) → S .request h w a .number ≡ 0
-      → paperIn s S (more h (request w a)) .running ≡ runBy (does (requestOf w .call) .kind) (paperIn s S h .running)
-  run-after h w a z =
-      ap (λ (q : Paper). q .running) (paper-more s S h (request w a) ∙ ap (step (paperIn s S h)) (told-request S h (paperIn s S h) w a z))
-      ∙ does (requestOf w .call) .run (paperIn s S h) a (S .request h w a .argument)
+use Rattle.claims.proofs.InForce.{Not, put-together, now-in-force, still-in-force}
+use Rattle.claims.proofs.Switched.{Next, turns, callIn, next}
 
 -- ---- a run stays on, or off
 
--- what no call changes but those of a kind
-steady : (s : List ℕ) (S : Session) (on : Bool) (Other : Asked → Type 0) → ((c : Asked) → (Other c → ⊥) → runBy (does c .kind) on ≡ on)
-    → (cs h : List Call) → paperIn s S h .running ≡ on → NoneOf S Other h cs → paperIn s S (h ++ cs) .running ≡ on
-steady s S on Other law [] h e none = ap (λ (l : List Call). paperIn s S l .running) (append-nil h) ∙ e
-steady s S on Other law (c ∷ cs) h e none =
-    ap (λ (l : List Call). paperIn s S l .running) (sym (append-assoc h (c ∷ []) cs))
-    ∙ steady s S on Other law cs (more h c) (go (done s S h c)) (λ x w a y q o. none (c ∷ x) w a y (ap (λ (l : List Call). c ∷ l) q) (subst (λ (l : List Call). Accepted S Other l w a) (append-assoc h (c ∷ []) x) o))
-  where
-    go : Done s S h c → paperIn s S (more h c) .running ≡ on
-    go (accepts w a q z told) =
-        ap (λ (p : Paper). p .running) told ∙ does (requestOf w .call) .run (paperIn s S h) a (S .request h w a .argument)
-        ∙ ap (runBy (does (requestOf w .call) .kind)) e
-        ∙ law (requestOf w .call) (λ o. none [] w a cs (ap (λ (x : Call). x ∷ cs) q) (subst (λ (l : List Call). Accepted S Other l w a) (sym (append-nil h)) (o, z)))
-    go (passes no-request r g) = r ∙ e
-
--- only a STREAMON turns it on
-stays-off : (c : Asked) → (Starts c → ⊥) → runBy (does c .kind) false ≡ false
-stays-off c none = go (does c .kind) (does c .of)
-  where
-    go : (k : Kind) → Of k c → runBy k false ≡ false
-    go start e = absurd (none e)
-    go stop e = refl
-    go ask e = refl
-    go neither e = refl
-
--- and only a stop or a buffer request off
-stays-on : (c : Asked) → (Ends c → ⊥) → runBy (does c .kind) true ≡ true
-stays-on c none = go (does c .kind) (does c .of)
-  where
-    go : (k : Kind) → Of k c → runBy k true ≡ true
-    go start e = refl
-    go stop e = absurd (none (inl e))
-    go ask e = absurd (none (inr e))
-    go neither e = refl
-
-starts-run : (c : Asked) (on : Bool) → Starts c → runBy (does c .kind) on ≡ true
-unfolding does
-starts-run c on e = ap (λ (x : Asked). runBy (does x .kind) on) e
-
-ends-run : (c : Asked) (on : Bool) → Ends c → runBy (does c .kind) on ≡ false
-unfolding does
-ends-run c on (inl e) = ap (λ (x : Asked). runBy (does x .kind) on) e
-ends-run c on (inr e) = ap (λ (x : Asked). runBy (does x .kind) on) e
-
 module _ (s : List ℕ) (S : Session) where
-  -- from the accepted call on
-  held : (on : Bool) (Kind Other : Asked → Type 0) → ((c : Asked) (b : Bool) → Kind c → runBy (does c .kind) b ≡ on) → ((c : Asked) → (Other c → ⊥) → runBy (does c .kind) on ≡ on)
-      → (cs : List Call) → InForce S Kind Other cs → paperIn s S cs .running ≡ on
-  held on Kind Other turn law cs r =
-      ap (λ (l : List Call). paperIn s S l .running) (sym (put-together S Kind Other cs r))
-      ∙ steady s S on Other law (r .back) (more (r .front) (request (r .word) (r .argument)))
-      (run-after s S (r .front) (r .word) (r .argument) (r .accepted .1) ∙ turn (requestOf (r .word) .call) (paperIn s S (r .front) .running) (r .accepted .0)) (r .since)
+  -- one call keeps it on, unless it is an accepted one that ends it
+  keeps-on : (h : List Call) (c : Call) → paperIn s S h .running ≡ true → Not S Ends h c → Next s S h c → paperIn s S (more h c) .running ≡ true
+  keeps-on h c on none (Next.begins w a q o r g) = r
+  keeps-on h c on none (Next.ends w a q e z r g) = absurd (none w a q (inl e, z))
+  keeps-on h c on none (Next.grants w a q o r g) = absurd (none w a q (inr (o .0), o .1))
+  keeps-on h c on none (Next.leaves x y r g) = r ∙ on
+
+  -- and off, unless it is an accepted STREAMON
+  keeps-off : (h : List Call) (c : Call) → paperIn s S h .running ≡ false → Not S Starts h c → Next s S h c → paperIn s S (more h c) .running ≡ false
+  keeps-off h c off none (Next.begins w a q o r g) = absurd (none w a q o)
+  keeps-off h c off none (Next.ends w a q e z r g) = r
+  keeps-off h c off none (Next.grants w a q o r g) = r
+  keeps-off h c off none (Next.leaves x y r g) = r ∙ off
+
+  -- so do many
+  steady : (on : Bool) (Other : Asked → Type 0)
+      → ((h : List Call) (c : Call) → paperIn s S h .running ≡ on → Not S Other h c → Next s S h c → paperIn s S (more h c) .running ≡ on)
+      → (cs h : List Call) → paperIn s S h .running ≡ on → NoneOf S Other h cs → paperIn s S (h ++ cs) .running ≡ on
+  steady on Other keeps [] h e none = ap (λ (l : List Call). paperIn s S l .running) (append-nil h) ∙ e
+  steady on Other keeps (c ∷ cs) h e none =
+      ap (λ (l : List Call). paperIn s S l .running) (sym (append-assoc h (c ∷ []) cs))
+      ∙ steady on Other keeps cs (more h c)
+      (keeps h c e (λ w a q o. none [] w a cs (ap (λ (x : Call). x ∷ cs) q) (subst (λ (l : List Call). Accepted S Other l w a) (sym (append-nil h)) o)) (next s S h c))
+      (λ x w a y q o. none (c ∷ x) w a y (ap (λ (l : List Call). c ∷ l) q) (subst (λ (l : List Call). Accepted S Other l w a) (append-assoc h (c ∷ []) x) o))
+
+  -- the call that begins it, and the one that ends it
+  turned-on : (h : List Call) (w : ℕ) (a : List ℕ) → Accepted S Starts h w a → Next s S h (request w a) → paperIn s S (more h (request w a)) .running ≡ true
+  turned-on h w a o (Next.begins v b q e r g) = r
+  turned-on h w a o (Next.ends v b q e z r g) = absurd (omega (arith, ap turns (sym (o .0) ∙ ap callIn q ∙ e)))
+  turned-on h w a o (Next.grants v b q e r g) = absurd (omega (arith, ap turns (sym (o .0) ∙ ap callIn q ∙ e .0)))
+  turned-on h w a o (Next.leaves x y r g) = absurd (x w a refl o)
+
+  turned-off : (h : List Call) (w : ℕ) (a : List ℕ) → Accepted S Ends h w a → Next s S h (request w a) → paperIn s S (more h (request w a)) .running ≡ false
+  turned-off h w a o (Next.begins v b q e r g) =
+      absurd (⊎-elim (λ x. omega (arith, ap turns (sym x ∙ ap callIn q ∙ e .0))) (λ x. omega (arith, ap turns (sym x ∙ ap callIn q ∙ e .0))) (o .0))
+  turned-off h w a o (Next.ends v b q e z r g) = r
+  turned-off h w a o (Next.grants v b q e r g) = r
+  turned-off h w a o (Next.leaves x y r g) = absurd (y w a refl o)
 
   pub is-on : (cs : List Call) → RunOn S cs → paperIn s S cs .running ≡ true
-  is-on = held true Starts Ends starts-run stays-on
+  is-on cs r =
+      let h : List Call = r .front in
+      ap (λ (l : List Call). paperIn s S l .running) (sym (put-together S Starts Ends cs r))
+      ∙ steady true Ends keeps-on (r .back) (more h (request (r .word) (r .argument))) (turned-on h (r .word) (r .argument) (r .accepted) (next s S h (request (r .word) (r .argument)))) (r .since)
 
   pub is-off : (cs : List Call) → InForce S Ends Starts cs → paperIn s S cs .running ≡ false
-  is-off = held false Ends Starts ends-run stays-off
+  is-off cs r =
+      let h : List Call = r .front in
+      ap (λ (l : List Call). paperIn s S l .running) (sym (put-together S Ends Starts cs r))
+      ∙ steady false Starts keeps-off (r .back) (more h (request (r .word) (r .argument))) (turned-off h (r .word) (r .argument) (r .accepted) (next s S h (request (r .word) (r .argument)))) (r .since)
 
--- ---- a run that is on was begun, and buffers that are there were granted
+  -- ---- a run that is on was begun, and buffers that are there were granted
 
-module _ (s : List ℕ) (S : Session) where
   begun-by : (cs : List Call) → paperIn s S cs .running ≡ true → RunOn S cs
-  begun-by = every (λ (cs : List Call). paperIn s S cs .running ≡ true → RunOn S cs) (λ e. absurd (false≢true e)) (λ h c before e. go h c before e (done s S h c))
+  begun-by = every (λ (cs : List Call). paperIn s S cs .running ≡ true → RunOn S cs) (λ e. absurd (false≢true e)) (λ h c before on. go h c before on (next s S h c))
     where
-      go : (h : List Call) (c : Call) → (paperIn s S h .running ≡ true → RunOn S h) → paperIn s S (more h c) .running ≡ true → Done s S h c → RunOn S (more h c)
-      go h c before e (passes none r g) = still-in-force S Starts Ends h c (before (sym r ∙ e)) (λ w a q o. none w a q (o .1))
-      go h c before e (accepts w a q z told) =
-          by (does (requestOf w .call) .kind) (does (requestOf w .call) .of) (sym (does (requestOf w .call) .run (paperIn s S h) a (S .request h w a .argument)) ∙ ap (λ (p : Paper). p .running) (sym told) ∙ e)
-        where
-          by : (k : Kind) → Of k (requestOf w .call) → runBy k (paperIn s S h .running) ≡ true → RunOn S (more h c)
-          by start o on = subst (λ (x : Call). RunOn S (more h x)) (sym q) (now-in-force S Starts Ends h w a (o, z))
-          by stop o on = absurd (false≢true on)
-          by ask o on = absurd (false≢true on)
-          by neither o on = still-in-force S Starts Ends h c (before on) (λ v b r x. o .1 (subst Ends (ap (λ (y : Call). callIn y) (sym r ∙ q)) (x .0)))
+      go : (h : List Call) (c : Call) → (paperIn s S h .running ≡ true → RunOn S h) → paperIn s S (more h c) .running ≡ true → Next s S h c → RunOn S (more h c)
+      go h c before on (Next.begins w a q o r g) = subst (λ (x : Call). RunOn S (more h x)) (sym q) (now-in-force S Starts Ends h w a o)
+      go h c before on (Next.ends w a q e z r g) = absurd (false≢true (sym r ∙ on))
+      go h c before on (Next.grants w a q o r g) = absurd (false≢true (sym r ∙ on))
+      go h c before on (Next.leaves x y r g) = still-in-force S Starts Ends h c y (before (sym r ∙ on))
 
   granted-by : (cs : List Call) → 0 < paperIn s S cs .granted → BuffersExist S cs
   unfolding now-in-force still-in-force
-  granted-by = every (λ (cs : List Call). 0 < paperIn s S cs .granted → BuffersExist S cs) (λ e. absurd (omega (arith, e))) (λ h c before e. go h c before e (done s S h c))
+  granted-by = every (λ (cs : List Call). 0 < paperIn s S cs .granted → BuffersExist S cs) (λ e. absurd (omega (arith, e))) (λ h c before some. go h c before some (next s S h c))
     where
-      longer : (h : List Call) (c : Call) → ((w : ℕ) (a : List ℕ) → c ≡ request w a → Accepted S Grants h w a → ⊥) → BuffersExist S h → BuffersExist S (more h c)
-      longer h c none (r, some) = (still-in-force S Grants Grants h c r none, some)
+      longer : (h : List Call) (c : Call) → Not S Grants h c → paperIn s S (more h c) .granted ≡ paperIn s S h .granted → 0 < paperIn s S (more h c) .granted
+          → (0 < paperIn s S h .granted → BuffersExist S h) → BuffersExist S (more h c)
+      longer h c none g some before =
+          let (r, n) = before (subst (λ (n : ℕ). 0 < n) g some) in
+          (still-in-force S Grants Grants h c none r, n)
 
-      go : (h : List Call) (c : Call) → (0 < paperIn s S h .granted → BuffersExist S h) → 0 < paperIn s S (more h c) .granted → Done s S h c → BuffersExist S (more h c)
-      go h c before e (passes none r g) = longer h c (λ w a q o. none w a q (o .1)) (before (subst (λ (n : ℕ). 0 < n) g e))
-      go h c before e (accepts w a q z told) =
-          by (does (requestOf w .call) .kind) (does (requestOf w .call) .of)
-          (subst (λ (n : ℕ). 0 < n) (ap (λ (p : Paper). p .granted) told ∙ does (requestOf w .call) .buffers (paperIn s S h) a (S .request h w a .argument)) e)
-        where
-          same : (v : ℕ) (b : List ℕ) → c ≡ request v b → requestOf v .call ≡ requestOf w .call
-          same v b r = ap callIn (sym r ∙ q)
+      -- a call of another kind grants nothing
+      other : (h : List Call) (c : Call) (w : ℕ) (a : List ℕ) → c ≡ request w a → turns (requestOf w .call) < 3 → Not S Grants h c
+      other h c w a q t v b r o = omega (arith, t, ap turns (sym (ap callIn (sym r ∙ q)) ∙ o .0))
 
-          by : (k : Kind) → Of k (requestOf w .call) → 0 < grantBy k (wordAt (S .request h w a .argument) 0) (paperIn s S h .granted) → BuffersExist S (more h c)
-          by start o some = longer h c (λ v b r x. omega (arith, ap turns (sym (same v b r ∙ o) ∙ x .0))) (before some)
-          by stop o some = longer h c (λ v b r x. omega (arith, ap turns (sym (same v b r ∙ o) ∙ x .0))) (before some)
-          by ask o some = subst (λ (x : Call). BuffersExist S (more h x)) (sym q) (now-in-force S Grants Grants h w a (o, z), some)
-          by neither o some = longer h c (λ v b r x. o .1 (inr (sym (same v b r) ∙ x .0))) (before some)
+      go : (h : List Call) (c : Call) → (0 < paperIn s S h .granted → BuffersExist S h) → 0 < paperIn s S (more h c) .granted → Next s S h c → BuffersExist S (more h c)
+      go h c before some (Next.begins w a q o r g) = longer h c (other h c w a q (omega (arith, ap turns (o .0)))) g some before
+      go h c before some (Next.ends w a q e z r g) = longer h c (other h c w a q (omega (arith, ap turns e))) g some before
+      go h c before some (Next.grants w a q o r g) =
+          subst (λ (x : Call). BuffersExist S (more h x)) (sym q) (now-in-force S Grants Grants h w a o, subst (λ (n : ℕ). 0 < n) g some)
+      go h c before some (Next.leaves x y r g) = longer h c (λ w a q o. y w a q (inr (o .0), o .1)) g some before
 
 -- ---- the numbers
 
@@ -360,28 +143,24 @@ module _ (s m : List ℕ) (S : Session) (d : Demand1 s m S) where
     some : eqb (paperIn s S cs .granted) 0 ≡ false
 
   in-a-run : (cs : List Call) → paperIn s S cs .running ≡ true → Running cs
-  in-a-run = every (λ (cs : List Call). paperIn s S cs .running ≡ true → Running cs) (λ e. absurd (false≢true e)) (λ h c before e. go h c before e (done s S h c))
+  in-a-run = every (λ (cs : List Call). paperIn s S cs .running ≡ true → Running cs) (λ e. absurd (false≢true e)) (λ h c before on. go h c before on (next s S h c))
     where
       same : (h : List Call) (c : Call) → paperIn s S (more h c) .granted ≡ paperIn s S h .granted → Running h → Running (more h c)
       same h c e r = record { ready = r .ready; some = ap (λ (n : ℕ). eqb n 0) e ∙ r .some }
 
-      go : (h : List Call) (c : Call) → (paperIn s S h .running ≡ true → Running h) → paperIn s S (more h c) .running ≡ true → Done s S h c → Running (more h c)
-      go h c before e (passes none r g) = same h c g (before (sym r ∙ e))
-      go h c before e (accepts w a q z told) =
-          by (does (requestOf w .call) .kind) (does (requestOf w .call) .of)
-          (sym (does (requestOf w .call) .run (paperIn s S h) a (S .request h w a .argument)) ∙ ap (λ (p : Paper). p .running) (sym told) ∙ e)
-          (ap (λ (p : Paper). p .granted) told ∙ does (requestOf w .call) .buffers (paperIn s S h) a (S .request h w a .argument))
-        where
-          by : (k : Kind) → Of k (requestOf w .call) → runBy k (paperIn s S h .running) ≡ true
-              → paperIn s S (more h c) .granted ≡ grantBy k (wordAt (S .request h w a .argument) 0) (paperIn s S h .granted) → Running (more h c)
-          by start o on g =
-              let (ready, e1) = past (not (eqb (S .opening) 0)) (λ n. omega (arith, n)) (sym (by-call h w a Streamon o) ∙ z) in
-              let (long, e2) = past (not (eqb (length a) 4)) (λ n. omega (arith, n)) e1 in
-              let (kind, e3) = past (not (eqb (wordAt a 0) 1)) (λ n. omega (arith, n)) e2 in
-              same h c g (record { ready = ready; some = past (eqb (paperIn s S h .granted) 0) (λ n. omega (arith, n)) e3 .0 })
-          by stop o on g = absurd (false≢true on)
-          by ask o on g = absurd (false≢true on)
-          by neither o on g = same h c g (before on)
+      -- a STREAMON is accepted only so
+      start : (h : List Call) (w : ℕ) (a : List ℕ) → Accepted S Starts h w a → Running h
+      start h w a (o, z) =
+          let (ready, e1) = past (not (eqb (S .opening) 0)) (λ n. omega (arith, n)) (sym (by-call h w a Streamon o) ∙ z) in
+          let (long, e2) = past (not (eqb (length a) 4)) (λ n. omega (arith, n)) e1 in
+          let (kind, e3) = past (not (eqb (wordAt a 0) 1)) (λ n. omega (arith, n)) e2 in
+          record { ready = ready; some = past (eqb (paperIn s S h .granted) 0) (λ n. omega (arith, n)) e3 .0 }
+
+      go : (h : List Call) (c : Call) → (paperIn s S h .running ≡ true → Running h) → paperIn s S (more h c) .running ≡ true → Next s S h c → Running (more h c)
+      go h c before on (Next.begins w a q o r g) = same h c g (start h w a o)
+      go h c before on (Next.ends w a q e z r g) = absurd (false≢true (sym r ∙ on))
+      go h c before on (Next.grants w a q o r g) = absurd (false≢true (sym r ∙ on))
+      go h c before on (Next.leaves x y r g) = same h c g (before (sym r ∙ on))
 
   waits : (cs : List Call) (w : ℕ) (a : List ℕ) → requestOf w .call ≡ Dqbuf → S .request cs w a .number ≡ 11 → RunOn S cs × BuffersExist S cs
   waits cs w a e h =

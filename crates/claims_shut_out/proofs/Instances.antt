@@ -30,7 +30,7 @@ use Rattle.claims.specs.Words.{told, openingSize, paperIn}
 use Rattle.claims.specs.Meets.{Demand1}
 use Rattle.claims.specs.Waiting.{Starts, Ends}
 use Rattle.claims.proofs.Devices.{device-meets}
-use Rattle.claims.proofs.Waiting.{now-in-force}
+use Rattle.claims.proofs.InForce.{now-in-force}
 use Rattle.bench_sheet.specs.Bench.{benchSheet}
 use Rattle.claims_shut_out.specs.Faults.{leftZero, AlwaysComplete, NeverComplete, LaterPretend, OddRefused, FailedCounted, StoredNumbered, YoungestFirst, SoonWhenStopped, NeverSoon, Out}
 use Rattle.claims_shut_out.specs.Wrong.{ours, raised, leftRaised, telling, place, only, refused, noneIn, echoed, oddOut, answering, filledBy, youngest, praised, blamed, failedIn, withFailed, renumbered, flooded, ifStored, filledOnce, neverOpens, allRefusing, grantsNone, grantsFewer, alwaysRunning, alwaysBlank, alwaysGaps, alwaysComplete, stoppedComplete, neverComplete, idle, laterPretend, uncounted, tryEchoes, oddTried, oddSet, failedCounted, storedNumbered, youngestFirst, calledOff, soonWhenStopped, neverSoon, unknownInvalid, Wrong, WrongDevices}

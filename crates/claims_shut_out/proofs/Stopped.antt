@@ -1,9 +1,8 @@
 -- The faults of a device that a client cannot tell idle from stopped, and of one that takes an unknown word for a bad argument.
 use mathlib.Core.Path.{_≡_, refl, sym, _∙_}
 use mathlib.Core.Bool.{false≢true}
-use Prim.Native.Nat.{ℕ}
 use native.Mathlib.Omega.{arith}
-use mathlib.Core.List.{List, [], _∷_}
+use mathlib.Core.List.{[], _∷_}
 use Rattle.wire_read.specs.Words.{wordAt, le32, bytesOf}
 use Rattle.ioctl_table.specs.Table.{requestOf, callOf, knownWords}
 use Rattle.stream_history.specs.Paper.{blank, step}
