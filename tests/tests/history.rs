@@ -1,6 +1,6 @@
 //! What can be told from the calls alone. Two queues are kept on paper, as the requirements describe them, and every
-//! stored frame, every dequeue, the verdict and the sum of a run's arrivals are held against them. Nothing here looks
-//! into a device, so the model is tested as strictly as the library.
+//! stored frame, every dequeue, refused or not, the verdict and the sum of a run's arrivals are held against them. Nothing
+//! here looks into a device, so the model is tested as strictly as the library.
 
 use std::collections::VecDeque;
 use tollgutter_tests::ask::ask;
@@ -29,6 +29,7 @@ struct Paper {
     incoming: VecDeque<u32>,
     outgoing: VecDeque<Found>,
     streaming: bool,
+    buffers: u32,
     accepted: u64,
     handed_over: u64,
     damaged: u64,
@@ -59,9 +60,27 @@ impl Paper {
             S_FMT => self.image_size = word(after, 24) as usize,
             QBUF => self.incoming.push_back(word(before, 0)),
             STREAMON => self.start(),
-            STREAMOFF | REQBUFS => self.stop(),
+            STREAMOFF => self.stop(),
+            REQBUFS => {
+                self.stop();
+                self.buffers = word(after, 0);
+            }
             DQBUF => self.dequeue(after, memory),
             _ => {}
+        }
+    }
+
+    /// What a client may read from the number of a DQBUF: 11 says that a run is on and that there are buffers. Outside a run
+    /// every one of the right length gives 22, in a run one with nothing wrong in it gives 0 or 11.
+    fn waits(&self, argument: &[u8], number: u32) {
+        assert!(number != 11 || self.streaming && self.buffers > 0, "11 while there is nothing to wait for");
+        if argument.len() != size(DQBUF) {
+            return;
+        }
+        if !self.streaming {
+            assert_eq!(number, 22);
+        } else if word(argument, 4) == 1 && word(argument, 48) == 1 {
+            assert!(matches!(number, 0 | 11));
         }
     }
 
@@ -132,7 +151,11 @@ fn session<R: Recorder>(device: &mut R, seed: u64) {
             }
             Step::Request { word: request, argument } => {
                 let mut after = argument.clone();
-                if device.request(*request, &mut after) == 0 {
+                let number = device.request(*request, &mut after);
+                if *request == DQBUF {
+                    paper.waits(argument, number);
+                }
+                if number == 0 {
                     paper.request(*request, argument, &after, &memory);
                 }
             }
