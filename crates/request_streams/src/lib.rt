@@ -1,4 +1,5 @@
-// The requests about the stream. The argument's length is tested; the type that it names is tested by the call of `typed_calls`.
+// The requests about the stream. The argument's length is tested, then the type that it names, and the call goes to the stream of that
+// type: there is one, of pictures.
 ghost use mathlib.Core.Path.{_≡_};
 ghost use mathlib.Core.List.{List};
 ghost use Prim.Native.Nat.{ℕ};
@@ -7,6 +8,9 @@ ghost use Rattle.device_state.specs.Setup.{Setup};
 ghost use Rattle.device_state.specs.State.{stateOf};
 ghost use Rattle.device_state.specs.Answers.{answer};
 ghost use Rattle.request_topics.specs.Request.{onTopic, streams};
+
+mod by_type;
+
 use ioctl_table::Call;
 use ioctl_table::Refusal;
 use stream_words::Words;
@@ -22,37 +26,37 @@ pub fn stream_request(call: Call, size: u32, video: &mut Words, argument: &mut [
             if argument.len() != 20 {
                 return ioctl_table::errno(Refusal::ArgumentLength);
             }
-            typed_calls::reqbufs(size, video, argument)
+            by_type::reqbufs(size, video, argument)
         }
         Call::Querybuf => {
             if argument.len() != 68 {
                 return ioctl_table::errno(Refusal::ArgumentLength);
             }
-            typed_calls::querybuf(size, video, argument)
+            by_type::querybuf(size, video, argument)
         }
         Call::Qbuf => {
             if argument.len() != 68 {
                 return ioctl_table::errno(Refusal::ArgumentLength);
             }
-            typed_calls::qbuf(size, video, argument)
+            by_type::qbuf(size, video, argument)
         }
         Call::Dqbuf => {
             if argument.len() != 68 {
                 return ioctl_table::errno(Refusal::ArgumentLength);
             }
-            typed_calls::dqbuf(size, video, argument)
+            by_type::dqbuf(size, video, argument)
         }
         Call::Streamon => {
             if argument.len() != 4 {
                 return ioctl_table::errno(Refusal::ArgumentLength);
             }
-            typed_calls::streamon(video, argument)
+            by_type::streamon(video, argument)
         }
         Call::Streamoff => {
             if argument.len() != 4 {
                 return ioctl_table::errno(Refusal::ArgumentLength);
             }
-            typed_calls::streamoff(video, argument)
+            by_type::streamoff(video, argument)
         }
         _ => ioctl_table::errno(Refusal::UnknownWord),
     }

@@ -3,10 +3,10 @@ use mathlib.Core.Path.{refl}
 use denote.Ref.{now}
 use Rattle.stream_words.specs.Words.{streamIn}
 use Rattle.run_calls.specs.Runs.{streamoffOf}
-use Rattle.typed_calls.proofs.Called.{other-type, type-called}
+use Rattle.request_streams.proofs.Called.{other-type, type-called}
 use borrow.Author.Needs.{needs}
-use Rattle.typed_calls.proofs.streamoff.Statement.{statement}
-use Rattle.typed_calls.proofs.streamoff.Tie as tie
+use Rattle.request_streams.proofs.by_type.streamoff.Statement.{statement}
+use Rattle.request_streams.proofs.by_type.streamoff.Tie as tie
 
 word-at-requires : tie.Need-word-at-requires
 word-at-requires c κs = search needs

@@ -1,5 +1,5 @@
 // The six calls on a stream, by the type that an argument names: the type is tested, and the call goes to the stream of that type. There is
-// one, of pictures. That the argument has the call's length is tested by the caller.
+// one, of pictures.
 ghost use mathlib.Core.Path.{_≡_};
 ghost use mathlib.Core.List.{List};
 ghost use Prim.Native.Nat.{ℕ};
@@ -17,80 +17,72 @@ use stream_words::Words;
 // The type of pictures: video capture.
 const PICTURES: u32 = 1;
 
-// Where the argument of each call names its type.
-const REQBUFS_TYPE: usize = 4;
+// Where the type stands in a buffer request and in a buffer, and in the argument of a switch.
+const BUFFER_TYPE: usize = 4;
 
-const QUERYBUF_TYPE: usize = 4;
-
-const QBUF_TYPE: usize = 4;
-
-const DQBUF_TYPE: usize = 4;
-
-const STREAMON_TYPE: usize = 0;
-
-const STREAMOFF_TYPE: usize = 0;
+const SWITCH_TYPE: usize = 0;
 
 // Buffers are asked for, or freed.
-pub fn reqbufs(size: u32, video: &mut Words, argument: &mut [u8]) -> u32
+pub(crate) fn reqbufs(size: u32, video: &mut Words, argument: &mut [u8]) -> u32
     ensures { λ r. ⌜ ((v : List ℕ) (p : Setup) → p .size ≡ size → answer r (stateOf p v (streamIn (now (video .exit)))) (now (argument .exit))
         ≡ streamCall reqbufsOf 4 (stateOf p v (streamIn (now (video .entry)))) (now (argument .entry))) ⌝ }
 {
-    if wire_read::word_at(argument, REQBUFS_TYPE) != PICTURES {
+    if wire_read::word_at(argument, BUFFER_TYPE) != PICTURES {
         return ioctl_table::errno(Refusal::WrongType);
     }
     buffer_calls::reqbufs(video, PICTURES, size, argument)
 }
 
 // The status of a buffer.
-pub fn querybuf(size: u32, video: &Words, argument: &mut [u8]) -> u32
+pub(crate) fn querybuf(size: u32, video: &Words, argument: &mut [u8]) -> u32
     ensures { λ r. ⌜ ((v : List ℕ) (p : Setup) → p .size ≡ size → answer r (stateOf p v (streamIn (now (video .entry)))) (now (argument .exit))
         ≡ streamCall querybufOf 4 (stateOf p v (streamIn (now (video .entry)))) (now (argument .entry))) ⌝ }
 {
-    if wire_read::word_at(argument, QUERYBUF_TYPE) != PICTURES {
+    if wire_read::word_at(argument, BUFFER_TYPE) != PICTURES {
         return ioctl_table::errno(Refusal::WrongType);
     }
     buffer_calls::querybuf(video, PICTURES, size, argument)
 }
 
 // A buffer is handed in.
-pub fn qbuf(size: u32, video: &mut Words, argument: &mut [u8]) -> u32
+pub(crate) fn qbuf(size: u32, video: &mut Words, argument: &mut [u8]) -> u32
     ensures { λ r. ⌜ ((v : List ℕ) (p : Setup) → p .size ≡ size → answer r (stateOf p v (streamIn (now (video .exit)))) (now (argument .exit))
         ≡ streamCall qbufOf 4 (stateOf p v (streamIn (now (video .entry)))) (now (argument .entry))) ⌝ }
 {
-    if wire_read::word_at(argument, QBUF_TYPE) != PICTURES {
+    if wire_read::word_at(argument, BUFFER_TYPE) != PICTURES {
         return ioctl_table::errno(Refusal::WrongType);
     }
     queue_calls::qbuf(video, PICTURES, size, argument)
 }
 
 // The oldest filled buffer is handed over.
-pub fn dqbuf(size: u32, video: &mut Words, argument: &mut [u8]) -> u32
+pub(crate) fn dqbuf(size: u32, video: &mut Words, argument: &mut [u8]) -> u32
     ensures { λ r. ⌜ ((v : List ℕ) (p : Setup) → p .size ≡ size → answer r (stateOf p v (streamIn (now (video .exit)))) (now (argument .exit))
         ≡ streamCall dqbufOf 4 (stateOf p v (streamIn (now (video .entry)))) (now (argument .entry))) ⌝ }
 {
-    if wire_read::word_at(argument, DQBUF_TYPE) != PICTURES {
+    if wire_read::word_at(argument, BUFFER_TYPE) != PICTURES {
         return ioctl_table::errno(Refusal::WrongType);
     }
     queue_calls::dqbuf(video, PICTURES, size, argument)
 }
 
 // A run begins.
-pub fn streamon(video: &mut Words, argument: &[u8]) -> u32
+pub(crate) fn streamon(video: &mut Words, argument: &[u8]) -> u32
     ensures { λ r. ⌜ ((v : List ℕ) (p : Setup) → answer r (stateOf p v (streamIn (now (video .exit)))) (now (argument .entry))
         ≡ streamCall streamonOf 0 (stateOf p v (streamIn (now (video .entry)))) (now (argument .entry))) ⌝ }
 {
-    if wire_read::word_at(argument, STREAMON_TYPE) != PICTURES {
+    if wire_read::word_at(argument, SWITCH_TYPE) != PICTURES {
         return ioctl_table::errno(Refusal::WrongType);
     }
     run_calls::streamon(video)
 }
 
 // The run ends, if one is on, and the queues are emptied.
-pub fn streamoff(video: &mut Words, argument: &[u8]) -> u32
+pub(crate) fn streamoff(video: &mut Words, argument: &[u8]) -> u32
     ensures { λ r. ⌜ ((v : List ℕ) (p : Setup) → answer r (stateOf p v (streamIn (now (video .exit)))) (now (argument .entry))
         ≡ streamCall streamoffOf 0 (stateOf p v (streamIn (now (video .entry)))) (now (argument .entry))) ⌝ }
 {
-    if wire_read::word_at(argument, STREAMOFF_TYPE) != PICTURES {
+    if wire_read::word_at(argument, SWITCH_TYPE) != PICTURES {
         return ioctl_table::errno(Refusal::WrongType);
     }
     run_calls::streamoff(video)

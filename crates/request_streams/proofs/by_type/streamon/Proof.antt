@@ -3,10 +3,10 @@ use mathlib.Core.Path.{refl}
 use denote.Ref.{now}
 use Rattle.stream_words.specs.Words.{streamIn}
 use Rattle.run_calls.specs.Runs.{streamonOf}
-use Rattle.typed_calls.proofs.Called.{other-type, type-called}
+use Rattle.request_streams.proofs.Called.{other-type, type-called}
 use borrow.Author.Needs.{needs}
-use Rattle.typed_calls.proofs.streamon.Statement.{statement}
-use Rattle.typed_calls.proofs.streamon.Tie as tie
+use Rattle.request_streams.proofs.by_type.streamon.Statement.{statement}
+use Rattle.request_streams.proofs.by_type.streamon.Tie as tie
 
 word-at-requires : tie.Need-word-at-requires
 word-at-requires c κs = search needs
