@@ -1,9 +1,7 @@
 // The requests about controls. Each takes an argument of the length that its word says, and answers any other as far as it reaches.
 ghost use mathlib.Core.Path.{_≡_};
 ghost use lib.ListN.{set};
-ghost use Rattle.stream_words.specs.Stream.{Stream};
-ghost use Rattle.device_state.specs.Setup.{Setup};
-ghost use Rattle.device_state.specs.State.{State, stateOf};
+ghost use Rattle.device_state.specs.State.{State, withValues};
 ghost use Rattle.device_state.specs.Answers.{answer};
 ghost use Rattle.control_calls.specs.Controls.{queryctrlOf, gCtrlOf, sCtrlOf};
 use control_value_rules::Reading;
@@ -25,7 +23,7 @@ pub fn queryctrl(sheet: &[u8], argument: &mut [u8]) -> u32
 
 // The value of a control.
 pub fn g_ctrl(sheet: &[u8], values: &Values, argument: &mut [u8]) -> u32
-    ensures { λ r. ⌜ ((p : Setup) (t : Stream) → answer r (stateOf p (now (values .entry)) t) (now (argument .exit)) ≡ gCtrlOf (now (sheet .entry)) (stateOf p (now (values .entry)) t) (now (argument .entry))) ⌝ }
+    ensures { λ r. ⌜ ((d : State) → answer r (withValues d (now (values .entry))) (now (argument .exit)) ≡ gCtrlOf (now (sheet .entry)) (withValues d (now (values .entry))) (now (argument .entry))) ⌝ }
 {
     let id = wire_read::word_at(argument, 0);
     let reading = control_value_rules::read(sheet, values, id);
@@ -50,7 +48,7 @@ fn keep(values: &mut [u32], k: u32, v: u32)
 
 // Another value for a control. A button leaves the argument.
 pub fn s_ctrl(sheet: &[u8], values: &mut Values, argument: &mut [u8]) -> u32
-    ensures { λ r. ⌜ ((p : Setup) (t : Stream) → answer r (stateOf p (now (values .exit)) t) (now (argument .exit)) ≡ sCtrlOf (now (sheet .entry)) (stateOf p (now (values .entry)) t) (now (argument .entry))) ⌝ }
+    ensures { λ r. ⌜ ((d : State) → answer r (withValues d (now (values .exit))) (now (argument .exit)) ≡ sCtrlOf (now (sheet .entry)) (withValues d (now (values .entry))) (now (argument .entry))) ⌝ }
 {
     let id = wire_read::word_at(argument, 0);
     let setting = control_value_rules::set(sheet, id, wire_read::word_at(argument, 4));

@@ -1,10 +1,7 @@
 // CROPCAP, G_CROP and S_CROP. Each takes an argument of the length that its word says, and answers any other as far as it reaches.
 ghost use mathlib.Core.Path.{_≡_};
-ghost use mathlib.Core.List.{List};
-ghost use Prim.Native.Nat.{ℕ};
-ghost use Rattle.stream_words.specs.Stream.{Stream};
 ghost use Rattle.device_state.specs.Setup.{setupIn};
-ghost use Rattle.device_state.specs.State.{State, stateOf};
+ghost use Rattle.device_state.specs.State.{State, withSetup};
 ghost use Rattle.device_state.specs.Answers.{answer};
 ghost use Rattle.crop_calls.specs.Crops.{askedCrop, cropcapOf, gCropOf, sCropOf};
 use device_state::SetupWords;
@@ -36,8 +33,8 @@ pub fn cropcap(sheet: &[u8], argument: &mut [u8]) -> u32
 
 // The present crop.
 pub fn g_crop(setup: &SetupWords, argument: &mut [u8]) -> u32
-    ensures { λ r. ⌜ ((v : List ℕ) (t : Stream) → answer r (stateOf (setupIn (now (setup .entry))) v t) (now (argument .exit))
-        ≡ gCropOf (stateOf (setupIn (now (setup .entry))) v t) (now (argument .entry))) ⌝ }
+    ensures { λ r. ⌜ ((d : State) → answer r (withSetup d (setupIn (now (setup .entry)))) (now (argument .exit))
+        ≡ gCropOf (withSetup d (setupIn (now (setup .entry)))) (now (argument .entry))) ⌝ }
 {
     if wire_read::word_at(argument, 0) != 1 {
         return ioctl_table::errno(Refusal::WrongType);
@@ -48,8 +45,8 @@ pub fn g_crop(setup: &SetupWords, argument: &mut [u8]) -> u32
 
 // Another crop, brought inside the bounds. The request is write-only: its argument stays.
 pub fn s_crop(sheet: &[u8], setup: &mut SetupWords, argument: &[u8]) -> u32
-    ensures { λ r. ⌜ ((v : List ℕ) (t : Stream) → answer r (stateOf (setupIn (now (setup .exit))) v t) (now (argument .entry))
-        ≡ sCropOf (now (sheet .entry)) (stateOf (setupIn (now (setup .entry))) v t) (now (argument .entry))) ⌝ }
+    ensures { λ r. ⌜ ((d : State) → answer r (withSetup d (setupIn (now (setup .exit)))) (now (argument .entry))
+        ≡ sCropOf (now (sheet .entry)) (withSetup d (setupIn (now (setup .entry)))) (now (argument .entry))) ⌝ }
 {
     if wire_read::word_at(argument, 0) != 1 {
         return ioctl_table::errno(Refusal::WrongType);

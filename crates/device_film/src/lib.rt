@@ -3,9 +3,8 @@ ghost use mathlib.Core.Path.{_≡_};
 ghost use mathlib.Core.List.{List};
 ghost use Prim.Native.Nat.{ℕ};
 ghost use lib.ListN.{length};
-ghost use Rattle.stream_words.specs.Stream.{Stream};
 ghost use Rattle.device_state.specs.Setup.{setupIn};
-ghost use Rattle.device_state.specs.State.{stateOf, stateIn};
+ghost use Rattle.device_state.specs.State.{State, stateIn, withSetup};
 ghost use Rattle.device_film.specs.Film.{taken, takenOf, takenMemory, deviceVerdict, devicePlace, devicePlane};
 use device_state::SetupWords;
 use ioctl_table::Refusal;
@@ -47,7 +46,7 @@ pub fn verdict_of(setup: &SetupWords, video: &Words) -> Verdict
 
 // Where plane k of a frame of so many bytes lies, by the present format; or no bytes, and 22.
 pub fn plane_place(sheet: &[u8], setup: &SetupWords, bytes: usize, k: u32) -> Place
-    ensures { λ r. ⌜ ((v : List ℕ) (t : Stream) → r ≡ devicePlace (now (sheet .entry)) (stateOf (setupIn (now (setup .entry))) v t) bytes k) ⌝ }
+    ensures { λ r. ⌜ ((d : State) → r ≡ devicePlace (now (sheet .entry)) (withSetup d (setupIn (now (setup .entry)))) bytes k) ⌝ }
 {
     if setup[device_state::READY] == 0 {
         let number = ioctl_table::errno(Refusal::Closed);
@@ -69,8 +68,8 @@ pub fn plane<'a>(
     k: u32,
     number: &mut u32,
 ) -> &'a [u8]
-    ensures { λ r. ⌜ ((v : List ℕ) (t : Stream) → (now r ≡ devicePlane (now (sheet .entry)) (stateOf (setupIn (now (setup .entry))) v t) (now (frame .entry)) k)
-        × (now (number .exit) ≡ devicePlace (now (sheet .entry)) (stateOf (setupIn (now (setup .entry))) v t) (length (now (frame .entry))) k .number)) ⌝ }
+    ensures { λ r. ⌜ ((d : State) → (now r ≡ devicePlane (now (sheet .entry)) (withSetup d (setupIn (now (setup .entry)))) (now (frame .entry)) k)
+        × (now (number .exit) ≡ devicePlace (now (sheet .entry)) (withSetup d (setupIn (now (setup .entry)))) (length (now (frame .entry))) k .number)) ⌝ }
 {
     let p = plane_place(sheet, setup, frame.len(), k);
     *number = p.number;

@@ -5,19 +5,14 @@ use mathlib.Core.List.{List, [], _∷_}
 use lib.ListN.{length, getD, set}
 use Rattle.wire_signed.specs.Signed.{signed}
 use Rattle.stream_words.specs.Lists.{tab}
+use Rattle.stream_words.proofs.Tabs.{tab-listed}
 use Rattle.format_rules.specs.declared.Format.{Format}
 use Rattle.sheet_geometry.specs.declared.Rect.{Rect}
 use Rattle.device_state.specs.Setup.{setupIn}
 use Rattle.device_setup.specs.Changes.{changedFormat, changedCrop}
 
--- a list is what it reads as
-listed : (w : List ℕ) → tab (λ i. getD w i 0) (length w) ≡ w
-unfolding tab
-listed [] = refl
-listed (x ∷ w) = ap (λ (l : List ℕ). x ∷ l) (listed w)
-
 ten : (w : List ℕ) → length w ≡ 10 → tab (λ i. getD w i 0) 10 ≡ w
-ten w long = subst (λ (n : ℕ). tab (λ i. getD w i 0) n ≡ w) long (listed w)
+ten w long = subst (λ (n : ℕ). tab (λ i. getD w i 0) n ≡ w) long (tab-listed w 0)
 
 -- of words that read as g
 format-stored : (g : ℕ → ℕ) (f : Format) (line size : ℕ)

@@ -39,6 +39,10 @@ closedState = stateOf closedSetup (replicate 32 0) (freshStream 0)
 unfoldable pub openingState : List ℕ → ℕ → State
 openingState s n = stateOf (openingSetup s) (openingValues s) (freshStream n)
 
+-- the same state with another setup
+abbrev pub withSetup : State → Setup → State
+withSetup d p = record { ready = p .ready; format = p .format; line = p .line; size = p .size; crop = p .crop; values = d .values; stream = d .stream }
+
 -- the same state with another format, and the line and image size that the sheet gives it; with another crop, values or stream
 abbrev pub withFormat : List ℕ → State → Format → State
 withFormat s d f =

@@ -1,10 +1,7 @@
 // QUERYCAP, ENUM_FMT and G_FMT. Each takes an argument of the length that its word says, and answers any other as far as it reaches.
 ghost use mathlib.Core.Path.{_≡_};
-ghost use mathlib.Core.List.{List};
-ghost use Prim.Native.Nat.{ℕ};
-ghost use Rattle.stream_words.specs.Stream.{Stream};
 ghost use Rattle.device_state.specs.Setup.{setupIn};
-ghost use Rattle.device_state.specs.State.{State, stateOf};
+ghost use Rattle.device_state.specs.State.{State, withSetup};
 ghost use Rattle.device_state.specs.Answers.{answer};
 ghost use Rattle.format_calls.specs.Formats.{querycapOf, enumFmtOf, gFmtOf};
 use device_state::SetupWords;
@@ -35,8 +32,8 @@ pub fn enum_fmt(sheet: &[u8], argument: &mut [u8]) -> u32
 
 // The present format.
 pub fn g_fmt(setup: &SetupWords, argument: &mut [u8]) -> u32
-    ensures { λ r. ⌜ ((v : List ℕ) (t : Stream) → answer r (stateOf (setupIn (now (setup .entry))) v t) (now (argument .exit))
-        ≡ gFmtOf (stateOf (setupIn (now (setup .entry))) v t) (now (argument .entry))) ⌝ }
+    ensures { λ r. ⌜ ((d : State) → answer r (withSetup d (setupIn (now (setup .entry)))) (now (argument .exit))
+        ≡ gFmtOf (withSetup d (setupIn (now (setup .entry)))) (now (argument .entry))) ⌝ }
 {
     if wire_read::word_at(argument, 0) != 1 {
         return ioctl_table::errno(Refusal::WrongType);

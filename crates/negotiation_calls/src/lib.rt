@@ -1,12 +1,9 @@
 // S_FMT and TRY_FMT. Each takes an argument of the length that its word says, and answers any other as far as it reaches.
 ghost use mathlib.Core.Path.{_≡_};
-ghost use mathlib.Core.List.{List};
-ghost use Prim.Native.Nat.{ℕ};
 ghost use lib.Seq.{sets};
 ghost use Rattle.negotiation_rules.specs.Negotiation.{negotiated, askedFormat};
-ghost use Rattle.stream_words.specs.Stream.{Stream};
 ghost use Rattle.device_state.specs.Setup.{setupIn};
-ghost use Rattle.device_state.specs.State.{State, stateOf};
+ghost use Rattle.device_state.specs.State.{State, withSetup};
 ghost use Rattle.device_state.specs.Answers.{answer};
 ghost use Rattle.negotiation_calls.specs.Negotiations.{toldFormat, pictureOf, sFmtOf, tryFmtOf};
 use device_state::SetupWords;
@@ -35,8 +32,8 @@ fn answered(sheet: &[u8], argument: &mut [u8]) -> Picture
 
 // Another format, while there are no buffers; so many are granted.
 pub fn s_fmt(sheet: &[u8], setup: &mut SetupWords, granted: u64, argument: &mut [u8]) -> u32
-    ensures { λ r. ⌜ ((v : List ℕ) (t : Stream) → t .queues .granted ≡ granted → answer r (stateOf (setupIn (now (setup .exit))) v t) (now (argument .exit))
-        ≡ sFmtOf (now (sheet .entry)) (stateOf (setupIn (now (setup .entry))) v t) (now (argument .entry))) ⌝ }
+    ensures { λ r. ⌜ ((d : State) → d .stream .queues .granted ≡ granted → answer r (withSetup d (setupIn (now (setup .exit)))) (now (argument .exit))
+        ≡ sFmtOf (now (sheet .entry)) (withSetup d (setupIn (now (setup .entry)))) (now (argument .entry))) ⌝ }
 {
     if wire_read::word_at(argument, 0) != 1 {
         return ioctl_table::errno(Refusal::WrongType);

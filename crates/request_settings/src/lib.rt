@@ -1,10 +1,7 @@
 // The requests about the device, its formats and its crop: the argument's length is tested, and the call goes to its handler.
 ghost use mathlib.Core.Path.{_≡_};
-ghost use mathlib.Core.List.{List};
-ghost use Prim.Native.Nat.{ℕ};
-ghost use Rattle.stream_words.specs.Stream.{Stream};
 ghost use Rattle.device_state.specs.Setup.{setupIn};
-ghost use Rattle.device_state.specs.State.{stateOf};
+ghost use Rattle.device_state.specs.State.{State, withSetup};
 ghost use Rattle.device_state.specs.Answers.{answer};
 ghost use Rattle.request_topics.specs.Request.{onTopic, settings};
 use device_state::SetupWords;
@@ -20,8 +17,8 @@ pub fn setting_request(
     granted: u64,
     argument: &mut [u8],
 ) -> u32
-    ensures { λ r. ⌜ ((v : List ℕ) (t : Stream) → t .queues .granted ≡ granted → answer r (stateOf (setupIn (now (setup .exit))) v t) (now (argument .exit))
-        ≡ onTopic settings call (now (sheet .entry)) (stateOf (setupIn (now (setup .entry))) v t) (now (argument .entry))) ⌝ }
+    ensures { λ r. ⌜ ((d : State) → d .stream .queues .granted ≡ granted → answer r (withSetup d (setupIn (now (setup .exit)))) (now (argument .exit))
+        ≡ onTopic settings call (now (sheet .entry)) (withSetup d (setupIn (now (setup .entry)))) (now (argument .entry))) ⌝ }
 {
     match call {
         Call::Querycap => {

@@ -1,14 +1,11 @@
 // The six calls on a stream, by the type that an argument names: the type is tested, and the call goes to the stream of that type. There is
 // one, of pictures.
 ghost use mathlib.Core.Path.{_≡_};
-ghost use mathlib.Core.List.{List};
-ghost use Prim.Native.Nat.{ℕ};
 ghost use Rattle.buffer_calls.specs.Buffers.{reqbufsOf, querybufOf};
 ghost use Rattle.queue_calls.specs.Queues.{qbufOf, dqbufOf};
 ghost use Rattle.run_calls.specs.Runs.{streamonOf, streamoffOf};
 ghost use Rattle.stream_words.specs.Words.{streamIn};
-ghost use Rattle.device_state.specs.Setup.{Setup};
-ghost use Rattle.device_state.specs.State.{stateOf};
+ghost use Rattle.device_state.specs.State.{State, withStream};
 ghost use Rattle.device_state.specs.Answers.{answer};
 ghost use Rattle.request_topics.specs.Request.{streamCall};
 use ioctl_table::Refusal;
@@ -24,8 +21,8 @@ const SWITCH_TYPE: usize = 0;
 
 // Buffers are asked for, or freed.
 pub(crate) fn reqbufs(size: u32, video: &mut Words, argument: &mut [u8]) -> u32
-    ensures { λ r. ⌜ ((v : List ℕ) (p : Setup) → p .size ≡ size → answer r (stateOf p v (streamIn (now (video .exit)))) (now (argument .exit))
-        ≡ streamCall reqbufsOf 4 (stateOf p v (streamIn (now (video .entry)))) (now (argument .entry))) ⌝ }
+    ensures { λ r. ⌜ ((d : State) → d .size ≡ size → answer r (withStream d (streamIn (now (video .exit)))) (now (argument .exit))
+        ≡ streamCall reqbufsOf 4 (withStream d (streamIn (now (video .entry)))) (now (argument .entry))) ⌝ }
 {
     if wire_read::word_at(argument, BUFFER_TYPE) != PICTURES {
         return ioctl_table::errno(Refusal::WrongType);
@@ -35,8 +32,8 @@ pub(crate) fn reqbufs(size: u32, video: &mut Words, argument: &mut [u8]) -> u32
 
 // The status of a buffer.
 pub(crate) fn querybuf(size: u32, video: &Words, argument: &mut [u8]) -> u32
-    ensures { λ r. ⌜ ((v : List ℕ) (p : Setup) → p .size ≡ size → answer r (stateOf p v (streamIn (now (video .entry)))) (now (argument .exit))
-        ≡ streamCall querybufOf 4 (stateOf p v (streamIn (now (video .entry)))) (now (argument .entry))) ⌝ }
+    ensures { λ r. ⌜ ((d : State) → d .size ≡ size → answer r (withStream d (streamIn (now (video .entry)))) (now (argument .exit))
+        ≡ streamCall querybufOf 4 (withStream d (streamIn (now (video .entry)))) (now (argument .entry))) ⌝ }
 {
     if wire_read::word_at(argument, BUFFER_TYPE) != PICTURES {
         return ioctl_table::errno(Refusal::WrongType);
@@ -46,8 +43,8 @@ pub(crate) fn querybuf(size: u32, video: &Words, argument: &mut [u8]) -> u32
 
 // A buffer is handed in.
 pub(crate) fn qbuf(size: u32, video: &mut Words, argument: &mut [u8]) -> u32
-    ensures { λ r. ⌜ ((v : List ℕ) (p : Setup) → p .size ≡ size → answer r (stateOf p v (streamIn (now (video .exit)))) (now (argument .exit))
-        ≡ streamCall qbufOf 4 (stateOf p v (streamIn (now (video .entry)))) (now (argument .entry))) ⌝ }
+    ensures { λ r. ⌜ ((d : State) → d .size ≡ size → answer r (withStream d (streamIn (now (video .exit)))) (now (argument .exit))
+        ≡ streamCall qbufOf 4 (withStream d (streamIn (now (video .entry)))) (now (argument .entry))) ⌝ }
 {
     if wire_read::word_at(argument, BUFFER_TYPE) != PICTURES {
         return ioctl_table::errno(Refusal::WrongType);
@@ -57,8 +54,8 @@ pub(crate) fn qbuf(size: u32, video: &mut Words, argument: &mut [u8]) -> u32
 
 // The oldest filled buffer is handed over.
 pub(crate) fn dqbuf(size: u32, video: &mut Words, argument: &mut [u8]) -> u32
-    ensures { λ r. ⌜ ((v : List ℕ) (p : Setup) → p .size ≡ size → answer r (stateOf p v (streamIn (now (video .exit)))) (now (argument .exit))
-        ≡ streamCall dqbufOf 4 (stateOf p v (streamIn (now (video .entry)))) (now (argument .entry))) ⌝ }
+    ensures { λ r. ⌜ ((d : State) → d .size ≡ size → answer r (withStream d (streamIn (now (video .exit)))) (now (argument .exit))
+        ≡ streamCall dqbufOf 4 (withStream d (streamIn (now (video .entry)))) (now (argument .entry))) ⌝ }
 {
     if wire_read::word_at(argument, BUFFER_TYPE) != PICTURES {
         return ioctl_table::errno(Refusal::WrongType);
@@ -68,8 +65,8 @@ pub(crate) fn dqbuf(size: u32, video: &mut Words, argument: &mut [u8]) -> u32
 
 // A run begins.
 pub(crate) fn streamon(video: &mut Words, argument: &[u8]) -> u32
-    ensures { λ r. ⌜ ((v : List ℕ) (p : Setup) → answer r (stateOf p v (streamIn (now (video .exit)))) (now (argument .entry))
-        ≡ streamCall streamonOf 0 (stateOf p v (streamIn (now (video .entry)))) (now (argument .entry))) ⌝ }
+    ensures { λ r. ⌜ ((d : State) → answer r (withStream d (streamIn (now (video .exit)))) (now (argument .entry))
+        ≡ streamCall streamonOf 0 (withStream d (streamIn (now (video .entry)))) (now (argument .entry))) ⌝ }
 {
     if wire_read::word_at(argument, SWITCH_TYPE) != PICTURES {
         return ioctl_table::errno(Refusal::WrongType);
@@ -79,8 +76,8 @@ pub(crate) fn streamon(video: &mut Words, argument: &[u8]) -> u32
 
 // The run ends, if one is on, and the queues are emptied.
 pub(crate) fn streamoff(video: &mut Words, argument: &[u8]) -> u32
-    ensures { λ r. ⌜ ((v : List ℕ) (p : Setup) → answer r (stateOf p v (streamIn (now (video .exit)))) (now (argument .entry))
-        ≡ streamCall streamoffOf 0 (stateOf p v (streamIn (now (video .entry)))) (now (argument .entry))) ⌝ }
+    ensures { λ r. ⌜ ((d : State) → answer r (withStream d (streamIn (now (video .exit)))) (now (argument .entry))
+        ≡ streamCall streamoffOf 0 (withStream d (streamIn (now (video .entry)))) (now (argument .entry))) ⌝ }
 {
     if wire_read::word_at(argument, SWITCH_TYPE) != PICTURES {
         return ioctl_table::errno(Refusal::WrongType);

@@ -4,8 +4,7 @@ ghost use mathlib.Core.Path.{_≡_};
 ghost use mathlib.Core.List.{List};
 ghost use Prim.Native.Nat.{ℕ};
 ghost use Rattle.stream_words.specs.Words.{streamIn};
-ghost use Rattle.device_state.specs.Setup.{Setup};
-ghost use Rattle.device_state.specs.State.{stateOf};
+ghost use Rattle.device_state.specs.State.{State, withStream};
 ghost use Rattle.device_state.specs.Answers.{answer};
 ghost use Rattle.request_topics.specs.Request.{onTopic, streams};
 
@@ -18,8 +17,8 @@ use stream_words::Words;
 // A call about the stream, whose frames have this size, with any argument. Each arm tests the length against a number of its own, for speed:
 // the compiler then knows it in all that the arm calls.
 pub fn stream_request(call: Call, size: u32, video: &mut Words, argument: &mut [u8]) -> u32
-    ensures { λ r. ⌜ ((s v : List ℕ) (p : Setup) → p .size ≡ size → answer r (stateOf p v (streamIn (now (video .exit)))) (now (argument .exit))
-        ≡ onTopic streams call s (stateOf p v (streamIn (now (video .entry)))) (now (argument .entry))) ⌝ }
+    ensures { λ r. ⌜ ((s : List ℕ) (d : State) → d .size ≡ size → answer r (withStream d (streamIn (now (video .exit)))) (now (argument .exit))
+        ≡ onTopic streams call s (withStream d (streamIn (now (video .entry)))) (now (argument .entry))) ⌝ }
 {
     match call {
         Call::Reqbufs => {

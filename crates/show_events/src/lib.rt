@@ -1,7 +1,10 @@
-// An event on the bench's device: it is said, done, and its answer said. The device goes in whole and comes back whole. No contract here says
-// more than that each function is safe and ends.
+// An event on the bench's device: it is said, done, and its answer said; and lists of them. The device goes in whole and comes back whole. No
+// contract here says more than that each function is safe and ends.
+mod lists;
+
 use device_opening::Made;
 use device_state::Device;
+pub use lists::table;
 use show_lists::Reading;
 
 // The picture memory, as long as that of the bench. It is lent with its length in its type: an array just made is too long for the checker
@@ -22,7 +25,7 @@ fn done(d: Device, memory: &mut Memory, c: u8, a: &mut [u8]) -> Made {
 }
 
 // An event: what it asks is said, then done, and what it is answered is said.
-pub fn event(d: Device, memory: &mut Memory, e: Reading) -> Device {
+pub(crate) fn event(d: Device, memory: &mut Memory, e: Reading) -> Device {
     let c = e.letter;
     let mut a = [0u8; 204];
     show_calls::asked(c, e.first, e.number, &mut a);

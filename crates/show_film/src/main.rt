@@ -1,11 +1,9 @@
 // The whole capture device on the bench sheet: each call, what it is answered, and what can be said of the film. What is printed of
 // an answer is read from the bytes of its argument. The crate `show_calls` has the letter of each event and how it is said, `show_lists` how
 // lists of events are read.
-mod events;
-
 fn main() {
     let mut memory = [0u8; 1048576];
-    events::table(
+    show_events::table(
         &mut memory,
         b"1. Opening\n\
             1048576B v 1048576D c o 1x0w v 1048576U v 1073741824B 1x0w v 1073741825B c o 1x0w v\n\

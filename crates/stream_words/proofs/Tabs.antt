@@ -1,11 +1,14 @@
 -- The values of a function as a list. Assumes nothing.
-use mathlib.Core.Path.{_≡_, refl, ap, _∙_}
+use mathlib.Core.Path.{_≡_, refl, sym, ap, _∙_}
 use mathlib.Core.Bool.{Bool, true, false, cond}
 use Prim.Native.Nat.{ℕ, zero, suc, _+_, _-_, _<_}
 use native.Mathlib.Omega.{arith}
 use native.Mathlib.Numerals.{add-one}
 use mathlib.Core.List.{List, [], _∷_, _++_}
-use lib.ListN.{length}
+use borrow.Author.Tests.{eqb-true, eqb-false}
+use lib.Dec.{eqb}
+use lib.ListN.{length, getD, set}
+use lib.Seq.{getD-set-same, getD-set-other}
 use Rattle.stream_words.specs.Lists.{tab, any, first}
 
 module _ {A : Type 0} where
@@ -40,6 +43,32 @@ module _ {A : Type 0} where
   unfolding tab
   tab-cons f zero h = absurd (omega arith)
   tab-cons f (suc n) h = let e : suc n - 1 ≡ n = omega arith in rw e
+
+  -- the value at a place
+  pub tab-get : (f : ℕ → A) (n i : ℕ) (z : A) → i < n → getD (tab f n) i z ≡ f i
+  unfolding tab
+  tab-get f zero i z h = absurd (omega arith)
+  tab-get f (suc n) zero z h = refl
+  tab-get f (suc n) (suc i) z h = tab-get (λ j. f (suc j)) n i z (omega arith)
+
+  -- a list is what it reads as
+  pub tab-listed : (l : List A) (z : A) → tab (λ i. getD l i z) (length l) ≡ l
+  unfolding tab
+  tab-listed [] z = refl
+  tab-listed (x ∷ l) z = ap (λ (m : List A). x ∷ m) (tab-listed l z)
+
+  -- so it is a table if it reads as one
+  pub tab-is : (l : List A) (z : A) (f : ℕ → A) (n : ℕ) → length l ≡ n → ((i : ℕ) → i < n → getD l i z ≡ f i) → l ≡ tab f n
+  tab-is l z f n e h = sym (tab-listed l z) ∙ ap (tab (λ i. getD l i z)) e ∙ tab-same (λ i. getD l i z) f n h
+
+  -- a table that is filled from its start, by one more
+  pub filled-more : (l : List A) (z : A) (f : ℕ → A) (k : ℕ) (x : A) → k < length l → x ≡ f k → ((i : ℕ) → i < k → getD l i z ≡ f i)
+      → (i : ℕ) → i < k + 1 → getD (set l k x) i z ≡ f i
+  filled-more l z f k x h e before i m = by (eqb i k) refl
+    where
+      by : (b : Bool) → eqb i k ≡ b → getD (set l k x) i z ≡ f i
+      by true q = rw (eqb-true i k q) (getD-set-same l k x z h ∙ e)
+      by false q = getD-set-other l k i x z (eqb-false i k q) ∙ before i (omega (arith, eqb-false i k q))
 
   module _ (p : A → Bool) where
     pub any-none : (f : ℕ → A) (n : ℕ) → ((i : ℕ) → i < n → p (f i) ≡ false) → any p (tab f n) ≡ false

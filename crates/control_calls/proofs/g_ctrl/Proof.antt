@@ -26,7 +26,7 @@ same-length : tie.Need-same-length
 same-length c = search needs
 
 returns : tie.Need-returns
-returns c p t =
+returns c x =
     let g = c .before .before .before .before .before in
     let o = g .before .before in
     rw (c .before .before .put-value .ensures)
@@ -36,7 +36,7 @@ same-length-2 : tie.Need-same-length-2
 same-length-2 c = search needs
 
 returns-2 : tie.Need-returns-2
-returns-2 c p t =
+returns-2 c x =
     let g = c .before .before .reading2 .given in
     let o = c .before .before .before .before in
     read-refused _ _ _ (o .before .word-at .ensures) (o .read .ensures) (g .0 .0) (g .1) (c .errno .ensures)

@@ -35,7 +35,7 @@ same-length : tie.Need-same-length
 same-length c = search needs
 
 returns : tie.Need-returns
-returns c p t =
+returns c x =
     let g = c .before .before .before .before .before .before .before .setting .given in
     rw (c .before .before .put-value .ensures)
     (set-stored _ _ _ (c .before .before .before .before .before .before .before .before .before .before .before .before .word-at .ensures) (c .before .before .before .before .before .before .before .before .before .before .word-at2 .ensures) (c .before .before .before .before .before .before .before .before .before .set .ensures) (g .0 .0) (g .0 .1 .0) (g .1) (c .before .before .before .before .keep .ensures))
@@ -44,13 +44,13 @@ same-length-2 : tie.Need-same-length-2
 same-length-2 c = search needs
 
 returns-2 : tie.Need-returns-2
-returns-2 c p t = set-pressed _ _ _ (c .before .before .before .before .before .word-at .ensures) (c .before .before .before .word-at2 .ensures) (c .before .before .set .ensures) (c .enum-told .given .1)
+returns-2 c x = set-pressed _ _ _ (c .before .before .before .before .before .word-at .ensures) (c .before .before .before .word-at2 .ensures) (c .before .before .set .ensures) (c .enum-told .given .1)
 
 same-length-3 : tie.Need-same-length-3
 same-length-3 c = search needs
 
 returns-3 : tie.Need-returns-3
-returns-3 c p t =
+returns-3 c x =
     let g = c .before .before .setting2 .given in
     set-refused _ _ _ (c .before .before .before .before .before .before .before .word-at .ensures) (c .before .before .before .before .before .word-at2 .ensures) (c .before .before .before .before .set .ensures) (g .0 .0) (g .1) (c .errno .ensures)
 

@@ -16,7 +16,7 @@ same-length c = search needs
 
 returns : tie.Need-returns
 unfolding gCropOf
-returns c v t = typed-refused 0 _ _ _ (c .before .before .word-at .ensures) (c .before .if1 .taken) (c .errno .ensures)
+returns c x = typed-refused 0 _ _ _ (c .before .before .word-at .ensures) (c .before .if1 .taken) (c .errno .ensures)
 
 crop-in-requires : tie.Need-crop-in-requires
 crop-in-requires c κs = search needs
@@ -29,7 +29,7 @@ same-length-2 c = search needs
 
 returns-2 : tie.Need-returns-2
 unfolding gCropOf
-returns-2 c v t = rw (typed-passed 0 _ _ _ (c .before .before .before .before .before .before .word-at .ensures) (c .before .before .before .before .before .if1 .left), c .before .before .put-crop .ensures, c .before .before .before .crop-in .ensures)
+returns-2 c x = rw (typed-passed 0 _ _ _ (c .before .before .before .before .before .before .word-at .ensures) (c .before .before .before .before .before .if1 .left), c .before .before .put-crop .ensures, c .before .before .before .crop-in .ensures)
 
 pub g-crop-spec : {M : Type 1} → statement M
 g-crop-spec =

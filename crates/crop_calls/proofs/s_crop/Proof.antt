@@ -13,7 +13,7 @@ errno-requires c κs = search needs
 
 returns : tie.Need-returns
 unfolding sCropOf
-returns c v t = typed-refused 0 _ _ _ (c .before .before .word-at .ensures) (c .before .if1 .taken) (c .errno .ensures)
+returns c x = typed-refused 0 _ _ _ (c .before .before .word-at .ensures) (c .before .if1 .taken) (c .errno .ensures)
 
 crop-bounds-requires : tie.Need-crop-bounds-requires
 crop-bounds-requires c κs = search needs
@@ -29,7 +29,7 @@ keep-crop-requires c κs = search needs
 
 returns-2 : tie.Need-returns-2
 unfolding sCropOf
-returns-2 c v t = rw (typed-passed 0 _ _ _ (c .before .before .before .before .before .before .word-at .ensures) (c .before .before .before .before .before .if1 .left), c .keep-crop .ensures, c .before .before .clamp .ensures, c .before .before .before .before .crop-bounds .ensures, c .before .before .before .asked .ensures)
+returns-2 c x = rw (typed-passed 0 _ _ _ (c .before .before .before .before .before .before .word-at .ensures) (c .before .before .before .before .before .if1 .left), c .keep-crop .ensures, c .before .before .clamp .ensures, c .before .before .before .before .crop-bounds .ensures, c .before .before .before .asked .ensures)
 
 pub s-crop-spec : {M : Type 1} → statement M
 s-crop-spec =

@@ -11,7 +11,7 @@ part-requires : tie.Need-part-requires
 part-requires c κs = search needs
 
 returns : tie.Need-returns
-returns c v t = rw (← c .before .plane-place .ensures v t) (c .part .ensures, refl)
+returns c x = rw (← c .before .plane-place .ensures x) (c .part .ensures, refl)
 
 pub plane-spec : {M : Type 1} → statement M
 plane-spec = tie.close (tie.spec plane-place-requires part-requires returns)

@@ -1,7 +1,7 @@
 -- The one test; the planes of the present format as their function gives them. Assumes nothing.
 use denote.Ref.{now}
 use Rattle.device_state.specs.Setup.{setupIn}
-use Rattle.device_state.specs.State.{stateOf}
+use Rattle.device_state.specs.State.{withSetup}
 use Rattle.device_film.proofs.Cases.{plane-closed, plane-open}
 use borrow.Author.Needs.{needs}
 use Rattle.device_film.proofs.plane_place.Statement.{statement}
@@ -15,7 +15,7 @@ errno-requires c κs = search needs
 
 returns : tie.Need-returns
 unfolding setupIn
-returns c v t = plane-closed (stateOf (setupIn (now (c .before .before .before .before .args .setup))) v t) (c .before .if1 .taken) _ _ _ (c .errno .ensures)
+returns c x = plane-closed (withSetup x (setupIn (now (c .before .before .before .before .args .setup)))) (c .before .if1 .taken) _ _ _ (c .errno .ensures)
 
 format-in-requires : tie.Need-format-in-requires
 format-in-requires c κs = search needs
@@ -28,9 +28,9 @@ plane-place-requires c κs = search needs
 
 returns-2 : tie.Need-returns-2
 unfolding setupIn
-returns-2 c v t =
+returns-2 c x =
     let a = c .before .before .before .before .before .before .args in
-    plane-open (stateOf (setupIn (now (a .setup))) v t) (c .before .before .before .if1 .left) _ _ _ (c .before .line-alignment .ensures) (rw (c .before .before .format-in .ensures) at (c .plane-place .ensures))
+    plane-open (withSetup x (setupIn (now (a .setup)))) (c .before .before .before .if1 .left) _ _ _ (c .before .line-alignment .ensures) (rw (c .before .before .format-in .ensures) at (c .plane-place .ensures))
 
 pub plane-place-spec : {M : Type 1} → statement M
 plane-place-spec =

@@ -17,7 +17,7 @@ same-length c = search needs
 
 returns : tie.Need-returns
 unfolding gFmtOf
-returns c v t = typed-refused 0 _ _ _ (c .before .before .word-at .ensures) (c .before .if1 .taken) (c .errno .ensures)
+returns c x = typed-refused 0 _ _ _ (c .before .before .word-at .ensures) (c .before .if1 .taken) (c .errno .ensures)
 
 format-in-requires : tie.Need-format-in-requires
 format-in-requires c κs = search needs
@@ -36,7 +36,7 @@ same-length-2 c = search needs
 
 returns-2 : tie.Need-returns-2
 unfolding gFmtOf setupIn
-returns-2 c v t = rw (typed-passed 0 _ _ _ (c .before .before .before .before .before .before .before .before .word-at .ensures) (c .before .before .before .before .before .before .before .if1 .left), c .before .before .put-format .ensures, c .before .before .before .before .before .before .format-in .ensures)
+returns-2 c x = rw (typed-passed 0 _ _ _ (c .before .before .before .before .before .before .before .before .word-at .ensures) (c .before .before .before .before .before .before .before .if1 .left), c .before .before .put-format .ensures, c .before .before .before .before .before .before .format-in .ensures)
 
 pub g-fmt-spec : {M : Type 1} → statement M
 g-fmt-spec =

@@ -17,7 +17,7 @@ same-length c = search needs
 
 returns : tie.Need-returns
 unfolding sFmtOf
-returns c v t e = typed-refused 0 _ _ _ (c .before .before .word-at .ensures) (c .before .if1 .taken) (c .errno .ensures)
+returns c x e = typed-refused 0 _ _ _ (c .before .before .word-at .ensures) (c .before .if1 .taken) (c .errno .ensures)
 
 errno-requires-2 : tie.Need-errno-requires-2
 errno-requires-2 c κs = search needs
@@ -27,7 +27,7 @@ same-length-2 c = search needs
 
 returns-2 : tie.Need-returns-2
 unfolding sFmtOf
-returns-2 c v t e = rw (typed-passed 0 _ _ _ (c .before .before .before .word-at .ensures) (c .before .before .if1 .left), e, ne-eqb _ _ (c .before .if2 .taken), c .errno2 .ensures)
+returns-2 c x e = rw (typed-passed 0 _ _ _ (c .before .before .before .word-at .ensures) (c .before .before .if1 .left), e, ne-eqb _ _ (c .before .if2 .taken), c .errno2 .ensures)
 
 answered-requires : tie.Need-answered-requires
 answered-requires c κs = search needs
@@ -40,7 +40,7 @@ same-length-3 c = search needs
 
 returns-3 : tie.Need-returns-3
 unfolding sFmtOf
-returns-3 c v t e =
+returns-3 c x e =
     let p = c .before .before .before .before .before .answered in
     rw (typed-passed 0 _ _ _ (c .before .before .before .before .before .before .before .before .before .word-at .ensures) (c .before .before .before .before .before .before .before .before .if1 .left), e, eq-eqb _ _ (c .before .before .before .before .before .before .before .if2 .left), c .keep-format .ensures, p .ensures .1, p .ensures .0)
 

@@ -1,28 +1,20 @@
--- The tests in the order of the definition; what is tested is the microseconds, read back from their bits. Assumes nothing.
-use mir.Syntax.{w32}
-use mir.Val.{toZ, ofZ}
+-- The two tests of the definition. Assumes nothing.
 use borrow.Author.Needs.{needs}
-use Rattle.picture_rules.proofs.Cases.{whole-early, whole-late, whole-timely}
+use borrow.Author.Tests.{not-true, not-false}
+use Rattle.picture_rules.specs.Picture.{wholePicture}
 use Rattle.picture_rules.proofs.whole_picture.Statement.{statement}
 use Rattle.picture_rules.proofs.whole_picture.Tie as tie
 
+in-second-requires : tie.Need-in-second-requires
+in-second-requires c κs = search needs
+
 returns : tie.Need-returns
-returns c =
-    let a = c .before .before .before .args in
-    whole-early (a .n) (a .size) (a .time)
-    (toZ w32 (ofZ w32 (a .time .microseconds))) (search needs) (c .if1 .taken)
+unfolding wholePicture
+returns c = rw (← c .before .in-second .ensures) (simp (not-true (c .before .in-second .result) (c .if1 .taken)))
 
 returns-2 : tie.Need-returns-2
-returns-2 c =
-    let a = c .before .before .before .before .before .before .args in
-    whole-late (a .n) (a .size) (a .time)
-    (toZ w32 (ofZ w32 (a .time .microseconds))) (search needs) (c .before .before .before .if1 .left) (c .if2 .taken)
-
-returns-3 : tie.Need-returns-3
-returns-3 c =
-    let a = c .before .before .before .before .before .before .args in
-    whole-timely (a .n) (a .size) (a .time)
-    (toZ w32 (ofZ w32 (a .time .microseconds))) (search needs) (c .before .before .before .if1 .left) (c .if2 .left)
+unfolding wholePicture
+returns-2 c = rw (← c .before .in-second .ensures) (simp (not-false (c .before .in-second .result) (c .if1 .left)))
 
 pub whole-picture-spec : {M : Type 1} → statement M
-whole-picture-spec = tie.close (tie.spec returns returns-2 returns-3)
+whole-picture-spec = tie.close (tie.spec in-second-requires returns returns-2)

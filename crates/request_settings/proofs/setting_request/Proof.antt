@@ -3,7 +3,7 @@ use mathlib.Core.List.{[], _∷_}
 use mathlib.Core.Path.{refl}
 use denote.Ref.{now}
 use Rattle.device_state.specs.Setup.{setupIn}
-use Rattle.device_state.specs.State.{stateOf}
+use Rattle.device_state.specs.State.{withSetup}
 use Rattle.ioctl_table.specs.declared.table.Call.the-variants.{Querycap, EnumFmt, GFmt, SFmt, TryFmt, Cropcap, GCrop, SCrop}
 use Rattle.request_topics.proofs.Cases.{arm-length, arm-called, topic-other, elsewhere}
 use borrow.Author.Needs.{needs}
@@ -17,9 +17,9 @@ errno-requires : tie.Need-errno-requires
 errno-requires c κs = search needs
 
 returns : tie.Need-returns
-returns c v t h =
+returns c x h =
     let a = c .before .before .before .before .before .before .args in
-    let d = stateOf (setupIn (now (a .setup))) v t in
+    let d = withSetup x (setupIn (now (a .setup))) in
     arm-length Querycap (now (a .sheet)) d (now (a .argument)) (c .before .before .enum-told .given .1) refl (c .before .if1 .taken) (c .errno .ensures)
 
 querycap-requires : tie.Need-querycap-requires
@@ -32,9 +32,9 @@ errno-requires-2 : tie.Need-errno-requires-2
 errno-requires-2 c κs = search needs
 
 returns-2 : tie.Need-returns-2
-returns-2 c v t h =
+returns-2 c x h =
     let a = c .before .before .before .before .before .before .args in
-    let d = stateOf (setupIn (now (a .setup))) v t in
+    let d = withSetup x (setupIn (now (a .setup))) in
     arm-length EnumFmt (now (a .sheet)) d (now (a .argument)) (c .before .before .enum-told2 .given .1) refl (c .before .if2 .taken) (c .errno2 .ensures)
 
 enum-fmt-requires : tie.Need-enum-fmt-requires
@@ -47,9 +47,9 @@ errno-requires-3 : tie.Need-errno-requires-3
 errno-requires-3 c κs = search needs
 
 returns-3 : tie.Need-returns-3
-returns-3 c v t h =
+returns-3 c x h =
     let a = c .before .before .before .before .before .before .args in
-    let d = stateOf (setupIn (now (a .setup))) v t in
+    let d = withSetup x (setupIn (now (a .setup))) in
     arm-length GFmt (now (a .sheet)) d (now (a .argument)) (c .before .before .enum-told3 .given .1) refl (c .before .if3 .taken) (c .errno3 .ensures)
 
 g-fmt-requires : tie.Need-g-fmt-requires
@@ -62,9 +62,9 @@ errno-requires-4 : tie.Need-errno-requires-4
 errno-requires-4 c κs = search needs
 
 returns-4 : tie.Need-returns-4
-returns-4 c v t h =
+returns-4 c x h =
     let a = c .before .before .before .before .before .before .args in
-    let d = stateOf (setupIn (now (a .setup))) v t in
+    let d = withSetup x (setupIn (now (a .setup))) in
     arm-length SFmt (now (a .sheet)) d (now (a .argument)) (c .before .before .enum-told4 .given .1) refl (c .before .if4 .taken) (c .errno4 .ensures)
 
 s-fmt-requires : tie.Need-s-fmt-requires
@@ -77,9 +77,9 @@ errno-requires-5 : tie.Need-errno-requires-5
 errno-requires-5 c κs = search needs
 
 returns-5 : tie.Need-returns-5
-returns-5 c v t h =
+returns-5 c x h =
     let a = c .before .before .before .before .before .before .args in
-    let d = stateOf (setupIn (now (a .setup))) v t in
+    let d = withSetup x (setupIn (now (a .setup))) in
     arm-length TryFmt (now (a .sheet)) d (now (a .argument)) (c .before .before .enum-told5 .given .1) refl (c .before .if5 .taken) (c .errno5 .ensures)
 
 try-fmt-requires : tie.Need-try-fmt-requires
@@ -92,9 +92,9 @@ errno-requires-6 : tie.Need-errno-requires-6
 errno-requires-6 c κs = search needs
 
 returns-6 : tie.Need-returns-6
-returns-6 c v t h =
+returns-6 c x h =
     let a = c .before .before .before .before .before .before .args in
-    let d = stateOf (setupIn (now (a .setup))) v t in
+    let d = withSetup x (setupIn (now (a .setup))) in
     arm-length Cropcap (now (a .sheet)) d (now (a .argument)) (c .before .before .enum-told6 .given .1) refl (c .before .if6 .taken) (c .errno6 .ensures)
 
 cropcap-requires : tie.Need-cropcap-requires
@@ -107,9 +107,9 @@ errno-requires-7 : tie.Need-errno-requires-7
 errno-requires-7 c κs = search needs
 
 returns-7 : tie.Need-returns-7
-returns-7 c v t h =
+returns-7 c x h =
     let a = c .before .before .before .before .before .before .args in
-    let d = stateOf (setupIn (now (a .setup))) v t in
+    let d = withSetup x (setupIn (now (a .setup))) in
     arm-length GCrop (now (a .sheet)) d (now (a .argument)) (c .before .before .enum-told7 .given .1) refl (c .before .if7 .taken) (c .errno7 .ensures)
 
 g-crop-requires : tie.Need-g-crop-requires
@@ -122,9 +122,9 @@ errno-requires-8 : tie.Need-errno-requires-8
 errno-requires-8 c κs = search needs
 
 returns-8 : tie.Need-returns-8
-returns-8 c v t h =
+returns-8 c x h =
     let a = c .before .before .before .before .before .before .args in
-    let d = stateOf (setupIn (now (a .setup))) v t in
+    let d = withSetup x (setupIn (now (a .setup))) in
     arm-length SCrop (now (a .sheet)) d (now (a .argument)) (c .before .before .enum-told8 .given .1) refl (c .before .if8 .taken) (c .errno8 .ensures)
 
 s-crop-requires : tie.Need-s-crop-requires
@@ -137,78 +137,78 @@ same-length : tie.Need-same-length
 same-length c = search needs
 
 returns-9 : tie.Need-returns-9
-returns-9 c v t h =
+returns-9 c x h =
     let a = c .before .before .before .before .before .before .before .before .before .args in
-    let d = stateOf (setupIn (now (a .setup))) v t in
+    let d = withSetup x (setupIn (now (a .setup))) in
     arm-called Querycap (now (a .sheet)) d (now (a .argument)) (c .before .before .before .before .before .enum-told .given .1) refl (c .before .before .before .before .if1 .left) (c .before .before .querycap .ensures d)
 
 same-length-2 : tie.Need-same-length-2
 same-length-2 c = search needs
 
 returns-10 : tie.Need-returns-10
-returns-10 c v t h =
+returns-10 c x h =
     let a = c .before .before .before .before .before .before .before .before .before .args in
-    let d = stateOf (setupIn (now (a .setup))) v t in
+    let d = withSetup x (setupIn (now (a .setup))) in
     arm-called EnumFmt (now (a .sheet)) d (now (a .argument)) (c .before .before .before .before .before .enum-told2 .given .1) refl (c .before .before .before .before .if2 .left) (c .before .before .enum-fmt .ensures d)
 
 same-length-3 : tie.Need-same-length-3
 same-length-3 c = search needs
 
 returns-11 : tie.Need-returns-11
-returns-11 c v t h =
+returns-11 c x h =
     let a = c .before .before .before .before .before .before .before .before .before .before .args in
-    let d = stateOf (setupIn (now (a .setup))) v t in
-    arm-called GFmt (now (a .sheet)) d (now (a .argument)) (c .before .before .before .before .before .before .enum-told3 .given .1) refl (c .before .before .before .before .before .if3 .left) (c .before .before .g-fmt .ensures v t)
+    let d = withSetup x (setupIn (now (a .setup))) in
+    arm-called GFmt (now (a .sheet)) d (now (a .argument)) (c .before .before .before .before .before .before .enum-told3 .given .1) refl (c .before .before .before .before .before .if3 .left) (c .before .before .g-fmt .ensures x)
 
 same-length-4 : tie.Need-same-length-4
 same-length-4 c = search needs
 
 returns-12 : tie.Need-returns-12
-returns-12 c v t h =
+returns-12 c x h =
     let a = c .before .before .before .before .before .before .before .before .before .before .args in
-    let d = stateOf (setupIn (now (a .setup))) v t in
-    arm-called SFmt (now (a .sheet)) d (now (a .argument)) (c .before .before .before .before .before .before .enum-told4 .given .1) refl (c .before .before .before .before .before .if4 .left) (c .before .before .s-fmt .ensures v t h)
+    let d = withSetup x (setupIn (now (a .setup))) in
+    arm-called SFmt (now (a .sheet)) d (now (a .argument)) (c .before .before .before .before .before .before .enum-told4 .given .1) refl (c .before .before .before .before .before .if4 .left) (c .before .before .s-fmt .ensures x h)
 
 same-length-5 : tie.Need-same-length-5
 same-length-5 c = search needs
 
 returns-13 : tie.Need-returns-13
-returns-13 c v t h =
+returns-13 c x h =
     let a = c .before .before .before .before .before .before .before .before .before .args in
-    let d = stateOf (setupIn (now (a .setup))) v t in
+    let d = withSetup x (setupIn (now (a .setup))) in
     arm-called TryFmt (now (a .sheet)) d (now (a .argument)) (c .before .before .before .before .before .enum-told5 .given .1) refl (c .before .before .before .before .if5 .left) (c .before .before .try-fmt .ensures d)
 
 same-length-6 : tie.Need-same-length-6
 same-length-6 c = search needs
 
 returns-14 : tie.Need-returns-14
-returns-14 c v t h =
+returns-14 c x h =
     let a = c .before .before .before .before .before .before .before .before .before .args in
-    let d = stateOf (setupIn (now (a .setup))) v t in
+    let d = withSetup x (setupIn (now (a .setup))) in
     arm-called Cropcap (now (a .sheet)) d (now (a .argument)) (c .before .before .before .before .before .enum-told6 .given .1) refl (c .before .before .before .before .if6 .left) (c .before .before .cropcap .ensures d)
 
 same-length-7 : tie.Need-same-length-7
 same-length-7 c = search needs
 
 returns-15 : tie.Need-returns-15
-returns-15 c v t h =
+returns-15 c x h =
     let a = c .before .before .before .before .before .before .before .before .before .before .args in
-    let d = stateOf (setupIn (now (a .setup))) v t in
-    arm-called GCrop (now (a .sheet)) d (now (a .argument)) (c .before .before .before .before .before .before .enum-told7 .given .1) refl (c .before .before .before .before .before .if7 .left) (c .before .before .g-crop .ensures v t)
+    let d = withSetup x (setupIn (now (a .setup))) in
+    arm-called GCrop (now (a .sheet)) d (now (a .argument)) (c .before .before .before .before .before .before .enum-told7 .given .1) refl (c .before .before .before .before .before .if7 .left) (c .before .before .g-crop .ensures x)
 
 same-length-8 : tie.Need-same-length-8
 same-length-8 c = search needs
 
 returns-16 : tie.Need-returns-16
-returns-16 c v t h =
+returns-16 c x h =
     let a = c .before .before .before .before .before .before .before .before .args in
-    let d = stateOf (setupIn (now (a .setup))) v t in
-    arm-called SCrop (now (a .sheet)) d (now (a .argument)) (c .before .before .before .before .enum-told8 .given .1) refl (c .before .before .before .if8 .left) (c .s-crop .ensures v t)
+    let d = withSetup x (setupIn (now (a .setup))) in
+    arm-called SCrop (now (a .sheet)) d (now (a .argument)) (c .before .before .before .before .enum-told8 .given .1) refl (c .before .before .before .if8 .left) (c .s-crop .ensures x)
 
 returns-17 : tie.Need-returns-17
-returns-17 c v t h =
+returns-17 c x h =
     let a = c .before .before .before .before .args in
-    let d = stateOf (setupIn (now (a .setup))) v t in
+    let d = withSetup x (setupIn (now (a .setup))) in
     topic-other 1 (a .call) (now (a .sheet)) d (now (a .argument)) (elsewhere 1 (0 ∷ 6 ∷ 7 ∷ 8 ∷ 9 ∷ 10 ∷ 11 ∷ 12 ∷ 13 ∷ 14 ∷ []) tt (a .call) (c .before .match .keys9)) (c .errno9 .ensures)
 
 pub setting-request-spec : {M : Type 1} → statement M

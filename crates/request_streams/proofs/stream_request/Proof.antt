@@ -3,7 +3,7 @@ use mathlib.Core.List.{[], _∷_}
 use mathlib.Core.Path.{refl}
 use denote.Ref.{now}
 use Rattle.stream_words.specs.Words.{streamIn}
-use Rattle.device_state.specs.State.{stateOf}
+use Rattle.device_state.specs.State.{withStream}
 use Rattle.ioctl_table.specs.declared.table.Call.the-variants.{Reqbufs, Querybuf, Qbuf, Dqbuf, Streamon, Streamoff}
 use Rattle.request_topics.proofs.Cases.{arm-length, arm-called, topic-other, elsewhere}
 use borrow.Author.Needs.{needs}
@@ -17,9 +17,9 @@ errno-requires : tie.Need-errno-requires
 errno-requires c κs = search needs
 
 returns : tie.Need-returns
-returns c s v p h =
+returns c s x h =
     let a = c .before .before .before .before .before .args in
-    let d = stateOf p v (streamIn (now (a .video))) in
+    let d = withStream x (streamIn (now (a .video))) in
     arm-length Reqbufs s d (now (a .argument)) (c .before .before .enum-told .given .1) refl (c .before .if1 .taken) (c .errno .ensures)
 
 reqbufs-requires : tie.Need-reqbufs-requires
@@ -32,9 +32,9 @@ errno-requires-2 : tie.Need-errno-requires-2
 errno-requires-2 c κs = search needs
 
 returns-2 : tie.Need-returns-2
-returns-2 c s v p h =
+returns-2 c s x h =
     let a = c .before .before .before .before .before .args in
-    let d = stateOf p v (streamIn (now (a .video))) in
+    let d = withStream x (streamIn (now (a .video))) in
     arm-length Querybuf s d (now (a .argument)) (c .before .before .enum-told2 .given .1) refl (c .before .if2 .taken) (c .errno2 .ensures)
 
 querybuf-requires : tie.Need-querybuf-requires
@@ -47,9 +47,9 @@ errno-requires-3 : tie.Need-errno-requires-3
 errno-requires-3 c κs = search needs
 
 returns-3 : tie.Need-returns-3
-returns-3 c s v p h =
+returns-3 c s x h =
     let a = c .before .before .before .before .before .args in
-    let d = stateOf p v (streamIn (now (a .video))) in
+    let d = withStream x (streamIn (now (a .video))) in
     arm-length Qbuf s d (now (a .argument)) (c .before .before .enum-told3 .given .1) refl (c .before .if3 .taken) (c .errno3 .ensures)
 
 qbuf-requires : tie.Need-qbuf-requires
@@ -62,9 +62,9 @@ errno-requires-4 : tie.Need-errno-requires-4
 errno-requires-4 c κs = search needs
 
 returns-4 : tie.Need-returns-4
-returns-4 c s v p h =
+returns-4 c s x h =
     let a = c .before .before .before .before .before .args in
-    let d = stateOf p v (streamIn (now (a .video))) in
+    let d = withStream x (streamIn (now (a .video))) in
     arm-length Dqbuf s d (now (a .argument)) (c .before .before .enum-told4 .given .1) refl (c .before .if4 .taken) (c .errno4 .ensures)
 
 dqbuf-requires : tie.Need-dqbuf-requires
@@ -77,9 +77,9 @@ errno-requires-5 : tie.Need-errno-requires-5
 errno-requires-5 c κs = search needs
 
 returns-5 : tie.Need-returns-5
-returns-5 c s v p h =
+returns-5 c s x h =
     let a = c .before .before .before .before .before .args in
-    let d = stateOf p v (streamIn (now (a .video))) in
+    let d = withStream x (streamIn (now (a .video))) in
     arm-length Streamon s d (now (a .argument)) (c .before .before .enum-told5 .given .1) refl (c .before .if5 .taken) (c .errno5 .ensures)
 
 streamon-requires : tie.Need-streamon-requires
@@ -92,9 +92,9 @@ errno-requires-6 : tie.Need-errno-requires-6
 errno-requires-6 c κs = search needs
 
 returns-6 : tie.Need-returns-6
-returns-6 c s v p h =
+returns-6 c s x h =
     let a = c .before .before .before .before .before .args in
-    let d = stateOf p v (streamIn (now (a .video))) in
+    let d = withStream x (streamIn (now (a .video))) in
     arm-length Streamoff s d (now (a .argument)) (c .before .before .enum-told6 .given .1) refl (c .before .if6 .taken) (c .errno6 .ensures)
 
 streamoff-requires : tie.Need-streamoff-requires
@@ -107,60 +107,60 @@ same-length : tie.Need-same-length
 same-length c = search needs
 
 returns-7 : tie.Need-returns-7
-returns-7 c s v p h =
+returns-7 c s x h =
     let a = c .before .before .before .before .before .before .before .before .before .args in
-    let d = stateOf p v (streamIn (now (a .video))) in
-    arm-called Reqbufs s d (now (a .argument)) (c .before .before .before .before .before .before .enum-told .given .1) refl (c .before .before .before .before .before .if1 .left) (c .before .before .reqbufs .ensures v p h)
+    let d = withStream x (streamIn (now (a .video))) in
+    arm-called Reqbufs s d (now (a .argument)) (c .before .before .before .before .before .before .enum-told .given .1) refl (c .before .before .before .before .before .if1 .left) (c .before .before .reqbufs .ensures x h)
 
 same-length-2 : tie.Need-same-length-2
 same-length-2 c = search needs
 
 returns-8 : tie.Need-returns-8
-returns-8 c s v p h =
+returns-8 c s x h =
     let a = c .before .before .before .before .before .before .before .before .before .args in
-    let d = stateOf p v (streamIn (now (a .video))) in
-    arm-called Querybuf s d (now (a .argument)) (c .before .before .before .before .before .before .enum-told2 .given .1) refl (c .before .before .before .before .before .if2 .left) (c .before .before .querybuf .ensures v p h)
+    let d = withStream x (streamIn (now (a .video))) in
+    arm-called Querybuf s d (now (a .argument)) (c .before .before .before .before .before .before .enum-told2 .given .1) refl (c .before .before .before .before .before .if2 .left) (c .before .before .querybuf .ensures x h)
 
 same-length-3 : tie.Need-same-length-3
 same-length-3 c = search needs
 
 returns-9 : tie.Need-returns-9
-returns-9 c s v p h =
+returns-9 c s x h =
     let a = c .before .before .before .before .before .before .before .before .before .args in
-    let d = stateOf p v (streamIn (now (a .video))) in
-    arm-called Qbuf s d (now (a .argument)) (c .before .before .before .before .before .before .enum-told3 .given .1) refl (c .before .before .before .before .before .if3 .left) (c .before .before .qbuf .ensures v p h)
+    let d = withStream x (streamIn (now (a .video))) in
+    arm-called Qbuf s d (now (a .argument)) (c .before .before .before .before .before .before .enum-told3 .given .1) refl (c .before .before .before .before .before .if3 .left) (c .before .before .qbuf .ensures x h)
 
 same-length-4 : tie.Need-same-length-4
 same-length-4 c = search needs
 
 returns-10 : tie.Need-returns-10
-returns-10 c s v p h =
+returns-10 c s x h =
     let a = c .before .before .before .before .before .before .before .before .before .args in
-    let d = stateOf p v (streamIn (now (a .video))) in
-    arm-called Dqbuf s d (now (a .argument)) (c .before .before .before .before .before .before .enum-told4 .given .1) refl (c .before .before .before .before .before .if4 .left) (c .before .before .dqbuf .ensures v p h)
+    let d = withStream x (streamIn (now (a .video))) in
+    arm-called Dqbuf s d (now (a .argument)) (c .before .before .before .before .before .before .enum-told4 .given .1) refl (c .before .before .before .before .before .if4 .left) (c .before .before .dqbuf .ensures x h)
 
 same-length-5 : tie.Need-same-length-5
 same-length-5 c = search needs
 
 returns-11 : tie.Need-returns-11
-returns-11 c s v p h =
+returns-11 c s x h =
     let a = c .before .before .before .before .before .before .before .args in
-    let d = stateOf p v (streamIn (now (a .video))) in
-    arm-called Streamon s d (now (a .argument)) (c .before .before .before .before .enum-told5 .given .1) refl (c .before .before .before .if5 .left) (c .streamon .ensures v p)
+    let d = withStream x (streamIn (now (a .video))) in
+    arm-called Streamon s d (now (a .argument)) (c .before .before .before .before .enum-told5 .given .1) refl (c .before .before .before .if5 .left) (c .streamon .ensures x)
 
 same-length-6 : tie.Need-same-length-6
 same-length-6 c = search needs
 
 returns-12 : tie.Need-returns-12
-returns-12 c s v p h =
+returns-12 c s x h =
     let a = c .before .before .before .before .before .before .before .args in
-    let d = stateOf p v (streamIn (now (a .video))) in
-    arm-called Streamoff s d (now (a .argument)) (c .before .before .before .before .enum-told6 .given .1) refl (c .before .before .before .if6 .left) (c .streamoff .ensures v p)
+    let d = withStream x (streamIn (now (a .video))) in
+    arm-called Streamoff s d (now (a .argument)) (c .before .before .before .before .enum-told6 .given .1) refl (c .before .before .before .if6 .left) (c .streamoff .ensures x)
 
 returns-13 : tie.Need-returns-13
-returns-13 c s v p h =
+returns-13 c s x h =
     let a = c .before .before .before .args in
-    let d = stateOf p v (streamIn (now (a .video))) in
+    let d = withStream x (streamIn (now (a .video))) in
     topic-other 2 (a .call) s d (now (a .argument)) (elsewhere 2 (0 ∷ 1 ∷ 2 ∷ 3 ∷ 4 ∷ 5 ∷ 12 ∷ 13 ∷ 14 ∷ 15 ∷ 16 ∷ 17 ∷ []) tt (a .call) (c .before .match .keys7)) (c .errno7 .ensures)
 
 pub stream-request-spec : {M : Type 1} → statement M

@@ -53,10 +53,8 @@ use denote.Exit.{yes}
 use denote.Struct.Laws as LL
 use Rattle.tollgutter.proofs.Fields.{big-lit, membersOf, map-same, lends-shr-array, shr-array-back}
 use Rattle.device_state.specs.State.{stateIn}
-use Rattle.stream_words.specs.Stream.{Stream}
-use Rattle.stream_words.specs.Words.{streamIn}
 use Rattle.device_state.specs.Setup.{setupIn}
-use Rattle.device_state.specs.State.{stateOf}
+use Rattle.device_state.specs.State.{State, withSetup}
 use Rattle.device_film.specs.Film.{devicePlace}
 use Rattle.device_state.specs.declared.Device.{Device}
 use Rattle.device_state.proofs.Device as T
@@ -112,12 +110,12 @@ module _ {M : Type 1} (𝓤 : URA M) (H : Heap 𝓤) (A : Atoms 𝓤) (W : Given
   together t h′ = via 𝓤 (sep 𝓤 (PartsBack 𝓤 H A t (T.the-type .name) members b o) (sem 𝓤 H A (partsAt t members 0 (T.the-type .to h′) b o))) (comm∗ 𝓤 (sem 𝓤 H A (partsAt t members 0 (T.the-type .to h′) b o)) (PartsBack 𝓤 H A t (T.the-type .name) members b o))
       (wandE 𝓤 (PartsBack 𝓤 H A t (T.the-type .name) members b o) (sem 𝓤 H A (partsAt t members 0 (T.the-type .to h′) b o)) (sem 𝓤 H A (partAt T.the-row t h′ b o)) (allE 𝓤 (λ (a′ : Denots (rowsOf members)). wand 𝓤 (sem 𝓤 H A (partsAt t members 0 a′ b o)) (sem 𝓤 H A (partAt (Struct (shapeOf (T.the-type .name) members)) t a′ b o))) (T.the-type .to h′)))
 
-  exits : (r : Place) → ((v : List ℕ) (t : Stream) → r ≡ devicePlace (h .sheet) (stateOf (setupIn (h .setup)) v t) p-bytes p-plane) → Is S-Place.the-row (r) (LL.val S-Place.the-type S-Place′.the-laws (r) ∷ [])
+  exits : (r : Place) → ((d : State) → r ≡ devicePlace (h .sheet) (withSetup d (setupIn (h .setup))) p-bytes p-plane) → Is S-Place.the-row (r) (LL.val S-Place.the-type S-Place′.the-laws (r) ∷ [])
       → ent 𝓤 (sep 𝓤 (A .res γ (T.the-row .coded .code h)) (sep 𝓤 (A .shr-bor κ (λ s. partAt T.the-row s h b o)) (A .lft κ q))) (Post (LL.val S-Place.the-type S-Place′.the-laws (r)))
   exits r e is-r =
       qed W (‵ (fres γ (T.the-row .coded .code h)) ∷ ‵ (fshr-bor κ (λ s. partAt T.the-row s h b o)) ∷ ‵ (flft κ q) ∷ []) ∵
       suffices ! _ (ends-at 𝓤 H A f.ended stayed (f.clauses 𝓤 H A at-mem run) W (((κ, tt), (q, tt), tt, x, at), tt) (LL.val S-Place.the-type S-Place′.the-laws (r)) (r) (tt, (tt, (tt, tt))) (tt, (tt, (tt, tt)))) $
-      says ! (e (h .values) (streamIn (h .video))) $ nothing ! $ move ! (3 ∷ 0 ∷ []) $ join ! $ frame ! $ move ! (0 ∷ 1 ∷ []) $ feqI ! (List Val) (vptr b o ∷ []) (vptr b o ∷ []) refl $ fjoin3 ! $ nothing ! $ nothing ! $ fjoin ! $ nothing ! $ fjoin ! $ move ! (1 ∷ 0 ∷ []) $ fjoin ! $ frame ! $ owned ! S-Place.the-row (Is S-Place.the-row) ((LL.makes S-Place.the-type S-Place′.the-plain) 𝓤 H A) (r) _ is-r $ done !
+      says ! (e (stateIn (h .setup) (h .values) (h .video))) $ nothing ! $ move ! (3 ∷ 0 ∷ []) $ join ! $ frame ! $ move ! (0 ∷ 1 ∷ []) $ feqI ! (List Val) (vptr b o ∷ []) (vptr b o ∷ []) refl $ fjoin3 ! $ nothing ! $ nothing ! $ fjoin ! $ nothing ! $ fjoin ! $ move ! (1 ∷ 0 ∷ []) $ fjoin ! $ frame ! $ owned ! S-Place.the-row (Is S-Place.the-row) ((LL.makes S-Place.the-type S-Place′.the-plain) 𝓤 H A) (r) _ is-r $ done !
 
   abbrev to-callee : (ν-sheet : ℕ) (ν-setup : ℕ) (δ-sheet : GName) (δ-setup : GName) → Callee 𝓤 H A at-mem run .Ghost
   to-callee ν-sheet ν-setup δ-sheet δ-setup = (((ν-sheet ∷ [], (ν-setup ∷ [], tt)), (fullShare, (fullShare, tt)), tt, (record { ptr = (b, o + 0); name = δ-sheet; now = h .sheet }, (record { ptr = (b, o + 2688); name = δ-setup; now = h .setup }, (p-bytes, (p-plane, tt)))), (sliceVal (b, o + 0) 2688 ∷ [], (vptr b (o + 2688) ∷ [], (vint w64 (p-bytes) ∷ [], (vint w32 (p-plane) ∷ [], tt))))), tt)
@@ -145,7 +143,7 @@ module _ {M : Type 1} (𝓤 : URA M) (H : Heap 𝓤) (A : Atoms 𝓤) (W : Given
         move ! (5 ∷ 2 ∷ 3 ∷ 0 ∷ []) $ group ! 4 $ use1 W (raw (Callee 𝓤 H A at-mem run .pre (to-callee ν-sheet ν-setup δ-sheet δ-setup))) (goes-callee ν-sheet ν-setup δ-sheet δ-setup) $
         calls-at ! fm (Callee 𝓤 H A at-mem run) known (to-callee ν-sheet ν-setup δ-sheet δ-setup) (and-then ! (load ! (from ! (stop !)) (look ! 10 refl)) (and-then ! (load ! (from ! (stop !)) (look ! 8 refl)) (and-then ! (load ! (from ! (stop !)) (look ! 16 refl)) (and-then ! (load ! (from ! (stop !)) (look ! 14 refl)) (no-more !))))) (λ v.
         use1 W (later (some (λ (r : Place). ((‵ (flft (ν-sheet ∷ []) fullShare) ⊛ (‵ (flft (ν-setup ∷ []) fullShare) ⊛ ‵ ftrue)) ⊛ ‵ (S-Place.the-row .own r (v ∷ []))) ⊛ raw (ensured 𝓤 H A g.ended (g.clauses 𝓤 H A at-mem run) (ν-sheet ∷ [], (ν-setup ∷ [], tt)) (record { ptr = (b, o + 0); name = δ-sheet; now = h .sheet }, (record { ptr = (b, o + 2688); name = δ-setup; now = h .setup }, (p-bytes, (p-plane, tt)))) tt r)))) (id⊢ 𝓤 _) $ await ! tt $ pick ! (λ r. split ! $
-        move ! (1 ∷ []) $ use1 W (some (λ (zs : (Unit {0} × (Unit {0} × (Unit {0} × (Unit {0} × Unit {0}))))). ‵ (lasts g.ended (ν-sheet ∷ [], (ν-setup ∷ [], tt)) (record { ptr = (b, o + 0); name = δ-sheet; now = h .sheet }, (record { ptr = (b, o + 2688); name = δ-setup; now = h .setup }, (p-bytes, (p-plane, tt)))) zs) ⊛ raw (fact 𝓤 ((v : List ℕ) (t : Stream) → r ≡ devicePlace (h .sheet) (stateOf (setupIn (h .setup)) v t) p-bytes p-plane)))) (id⊢ 𝓤 _) $ pick ! (λ zs. split ! $ move ! (1 ∷ []) $ heard ! ((v : List ℕ) (t : Stream) → r ≡ devicePlace (h .sheet) (stateOf (setupIn (h .setup)) v t) p-bytes p-plane) (λ e.
+        move ! (1 ∷ []) $ use1 W (some (λ (zs : (Unit {0} × (Unit {0} × (Unit {0} × (Unit {0} × Unit {0}))))). ‵ (lasts g.ended (ν-sheet ∷ [], (ν-setup ∷ [], tt)) (record { ptr = (b, o + 0); name = δ-sheet; now = h .sheet }, (record { ptr = (b, o + 2688); name = δ-setup; now = h .setup }, (p-bytes, (p-plane, tt)))) zs) ⊛ raw (fact 𝓤 ((d : State) → r ≡ devicePlace (h .sheet) (withSetup d (setupIn (h .setup))) p-bytes p-plane)))) (id⊢ 𝓤 _) $ pick ! (λ zs. split ! $ move ! (1 ∷ []) $ heard ! ((d : State) → r ≡ devicePlace (h .sheet) (withSetup d (setupIn (h .setup))) p-bytes p-plane) (λ e.
         move ! (0 ∷ []) $ fsplit ! $ move ! (1 ∷ []) $ fsplit ! $ move ! (1 ∷ []) $ fsplit ! $ move ! (1 ∷ []) $ fsplit ! $ move ! (1 ∷ []) $ drop ! $ move ! (3 ∷ []) $ drop ! $ move ! (2 ∷ []) $ drop ! $ move ! (1 ∷ []) $ drop ! $ move ! (0 ∷ []) $ drop ! $ move ! (0 ∷ []) $ split ! $ move ! (1 ∷ []) $ peeks ! S-Place.the-row (Is S-Place.the-row) (shows 𝓤 H A S-Place.the-row) r (v ∷ []) (λ is. move ! (0 ∷ []) $ drop ! $
         land ! (from ! (stop !)) (init ! 20 refl (LL.lawful S-Place.the-type S-Place′.the-laws 𝓤 H A W .typed (r) _ is .0)) $
         move ! (0 ∷ []) $ split ! $ move ! (1 ∷ []) $ split ! $ move ! (1 ∷ []) $ drop ! $

@@ -38,7 +38,7 @@ returns : tie.Need-returns
 returns c =
     let a = c .before .before .before .before .before .before .before .before .before .before .args in
     let d = stateIn (now (a .setup)) (now (a .values)) (now (a .video)) in
-    topic-called 1 (a .call) (now (a .sheet)) d (now (a .argument)) (c .before .before .before .before .before .before .before .topic .ensures) (c .before .before .before .before .before .before .match .keys1) (c .before .before .setting-request .ensures (now (a .values)) (streamIn (now (a .video))) (granted-is (now (a .video))))
+    topic-called 1 (a .call) (now (a .sheet)) d (now (a .argument)) (c .before .before .before .before .before .before .before .topic .ensures) (c .before .before .before .before .before .before .match .keys1) (c .before .before .setting-request .ensures d (granted-is (now (a .video))))
 
 same-length-2 : tie.Need-same-length-2
 same-length-2 c = search needs
@@ -48,7 +48,7 @@ unfolding setupIn
 returns-2 c =
     let a = c .before .before .before .before .before .before .before .before .before .before .args in
     let d = stateIn (now (a .setup)) (now (a .values)) (now (a .video)) in
-    topic-called 2 (a .call) (now (a .sheet)) d (now (a .argument)) (c .before .before .before .before .before .before .before .topic .ensures) (c .before .before .before .before .before .before .match .keys2) (c .before .before .stream-request .ensures (now (a .sheet)) (now (a .values)) (setupIn (now (a .setup))) refl)
+    topic-called 2 (a .call) (now (a .sheet)) d (now (a .argument)) (c .before .before .before .before .before .before .before .topic .ensures) (c .before .before .before .before .before .before .match .keys2) (c .before .before .stream-request .ensures (now (a .sheet)) d refl)
 
 same-length-3 : tie.Need-same-length-3
 same-length-3 c = search needs
@@ -57,7 +57,7 @@ returns-3 : tie.Need-returns-3
 returns-3 c =
     let a = c .before .before .before .before .before .before .before .before .before .args in
     let d = stateIn (now (a .setup)) (now (a .values)) (now (a .video)) in
-    topic-called 3 (a .call) (now (a .sheet)) d (now (a .argument)) (c .before .before .before .before .before .before .topic .ensures) (c .before .before .before .before .before .match .keys3) (c .before .before .control-request .ensures (setupIn (now (a .setup))) (streamIn (now (a .video))))
+    topic-called 3 (a .call) (now (a .sheet)) d (now (a .argument)) (c .before .before .before .before .before .before .topic .ensures) (c .before .before .before .before .before .match .keys3) (c .before .before .control-request .ensures d)
 
 returns-4 : tie.Need-returns-4
 returns-4 c =

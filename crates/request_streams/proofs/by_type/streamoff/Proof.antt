@@ -15,17 +15,17 @@ errno-requires : tie.Need-errno-requires
 errno-requires c κs = search needs
 
 returns : tie.Need-returns
-returns c v p =
+returns c x =
     let a = c .before .before .before .before .args in
-    other-type streamoffOf 0 p v (streamIn (now (a .video))) (now (a .argument)) (c .before .before .word-at .ensures) (c .before .if1 .taken) (c .errno .ensures)
+    other-type streamoffOf 0 x (streamIn (now (a .video))) (now (a .argument)) (c .before .before .word-at .ensures) (c .before .if1 .taken) (c .errno .ensures)
 
 streamoff-requires : tie.Need-streamoff-requires
 streamoff-requires c κs = search needs
 
 returns-2 : tie.Need-returns-2
-returns-2 c v p =
+returns-2 c x =
     let a = c .before .before .before .before .before .args in
-    type-called streamoffOf 0 p v (streamIn (now (a .video))) (now (a .argument)) (c .before .before .before .word-at .ensures) (c .before .before .if1 .left) refl (c .streamoff .ensures 1 (p .size) (now (a .argument)))
+    type-called streamoffOf 0 x (streamIn (now (a .video))) (now (a .argument)) (c .before .before .before .word-at .ensures) (c .before .before .if1 .left) refl (c .streamoff .ensures 1 (x .size) (now (a .argument)))
 
 pub streamoff-spec : {M : Type 1} → statement M
 streamoff-spec =

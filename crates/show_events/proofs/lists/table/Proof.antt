@@ -2,8 +2,8 @@
 use Prim.Native.Nat.{_≤_, _-_}
 use lib.ListN.{length}
 use borrow.Author.Needs.{needs}
-use Rattle.show_film.proofs.events.table.Statement.{statement}
-use Rattle.show_film.proofs.events.table.Tie as tie
+use Rattle.show_events.proofs.lists.table.Statement.{statement}
+use Rattle.show_events.proofs.lists.table.Tie as tie
 
 abbrev Inv-loop : tie.InvT-loop
 Inv-loop memory₀ lists d₀ e₀ i₀ memory d e i = i ≤ length lists

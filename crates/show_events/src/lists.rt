@@ -1,8 +1,8 @@
 // Lists of events over one device.
-use show_events::Memory;
+use crate::Memory;
 
 // The lists of a table, one after the other. A list starts with an opening; before the first, the device is one that no sheet opened.
-pub(crate) fn table(memory: &mut Memory, lists: &[u8]) {
+pub fn table(memory: &mut Memory, lists: &[u8]) {
     let none = [0u8; 12];
     let made = show_frames::open(&none);
     let mut d = made.device;
@@ -12,7 +12,7 @@ pub(crate) fn table(memory: &mut Memory, lists: &[u8]) {
         e = show_lists::after(e, lists[i]);
         i += 1;
         if 32 < e.letter {
-            d = show_events::event(d, memory, e);
+            d = crate::event(d, memory, e);
         }
     }
 }

@@ -1,0 +1,4 @@
+pub mod Records
+pub mod Whole
+pub mod Fits
+pub mod Cases
