@@ -1,7 +1,7 @@
 /* Tollgutter: one Video for Linux Two capture device, proved. C99, and C++.
  *
  * The library is target/staticlib/libtollgutter.a (`rt staticlib tollgutter`). It allocates nothing, keeps nothing between
- * calls and depends on nothing: the caller owns the device, the arguments, the picture memory and the frames.
+ * calls and depends on nothing: the caller owns the device, the arguments, the memories and the frames.
  * Every call answers every content of what it is lent; a refused call changes nothing. Numbers given back:
  *
  *     0 done   11 EAGAIN   14 EFAULT   16 EBUSY   22 EINVAL   25 ENOTTY   34 ERANGE   75 EOVERFLOW
@@ -9,12 +9,28 @@
  * 11 is DQBUF's alone and means "soon": a run is on, and a frame may arrive. Once the run is over, or before one has begun,
  * DQBUF gives 22. 25 is an unknown word; a closed device gives 22 to that too, as to everything.
  *
+ * A device has two streams, named by their buffer type: 1, pictures (video capture), and 6, caption lines (sliced VBI
+ * capture). Each has its own buffers, queues, run, verdict and memory, and a call about one leaves the other as it was.
+ * G_FMT, S_FMT, TRY_FMT, REQBUFS, QUERYBUF, QBUF, DQBUF, STREAMON and STREAMOFF take either type and answer with the one
+ * asked; ENUM_FMT, CROPCAP, G_CROP and S_CROP take 1 alone, and the eighteenth word, G_SLICED_VBI_CAP (0xC0745645, 116
+ * bytes, its type at 100), takes 6 alone. Any other type gives 22. QUERYCAP tells capabilities 0x04000041.
+ *
+ * The services of caption lines, and the lines that carry them (33 in all):
+ *
+ *     0x0001 Teletext B    lines 7 to 22 of both fields       0x1000 Caption 525   line 21 of both fields
+ *     0x0400 VPS           line 16 of the first field         0x4000 WSS 625       line 23 of the first field
+ *
+ * S_FMT and TRY_FMT of type 6 ask by service_set (16 bits at 4 of the 204 bytes) for services on all their lines, or, if it
+ * is zero, by service_lines (24 words of 16 bits from 6 on for the first field, 24 from 54 on for the second) for services
+ * line by line. The answer has what is offered of them, and in io_size (at 104) 64 bytes for each line that carries
+ * something; a slot is made for that many. At opening no service is negotiated, and without any REQBUFS grants 0.
+ *
  * What the caller has to see to, since no proof reaches a C caller:
  *   - each pointer points to as many bytes as its length says (a length of 0 may come with any pointer that is
  *     not null), and stays valid during the call;
  *   - what one call is lent does not overlap, except that two things that are only read may;
  *   - one device is used by one thread at a time;
- *   - nobody else writes the device, nor, while a frame in it is still wanted, the picture memory.
+ *   - nobody else writes the device, nor, while a frame in it is still wanted, the memory of its stream.
  */
 #ifndef TOLLGUTTER_H
 #define TOLLGUTTER_H
@@ -46,17 +62,17 @@ struct tg_setup {
     } crop;
 };
 
-/* The buffers and the run. The buffers that a client has handed in and not got back stand in one line, the oldest
+/* A stream: its buffers and its run. The buffers that a client has handed in and not got back stand in one line, the oldest
  * first. What is kept of the i-th of the line, from 0 on, stands at place (head + i) modulo 32 of the five arrays
  * index to microseconds; other places mean nothing. The first `holding` buffers of the line hold a frame and go out
  * next; the others wait for one. A `lined` above 32 counts as 32, and a `holding` above `lined` as `lined`. */
 struct tg_stream {
-    uint64_t length;           /* bytes of the picture memory, as told at opening */
+    uint64_t length;           /* bytes of its memory, as told at opening */
     uint64_t streaming;        /* 0: no run is on */
     uint64_t ran;              /* 0: no run was ever begun */
     uint64_t accepted;         /* of the last run: arrivals that got a number; the next one's number */
     uint64_t handed;           /* frames handed over by DQBUF */
-    uint64_t damaged;          /* arrivals of a wrong length or time */
+    uint64_t damaged;          /* arrivals that were not whole */
     uint64_t dropped;          /* whole arrivals that found no buffer waiting */
     uint64_t discarded;        /* stored frames that the end of the run threw away */
     uint64_t granted;          /* how many buffers there are */
@@ -73,10 +89,12 @@ struct tg_stream {
 };
 
 struct tg_device {
-    uint8_t sheet[2688];    /* the sheet, and zeros behind it */
+    uint8_t sheet[2688];       /* the sheet, and zeros behind it */
     struct tg_setup setup;
-    uint32_t values[32];    /* the values of the controls, in the sheet's order */
-    struct tg_stream video;
+    uint32_t values[32];       /* the values of the controls, in the sheet's order */
+    struct tg_stream video;    /* type 1 */
+    struct tg_stream captions; /* type 6 */
+    uint16_t services[48];     /* those negotiated on line l of field f, at 24 f + l; fields and lines count from 0 */
 };
 
 /* What an arrival is answered. */
@@ -88,7 +106,7 @@ struct tg_arrived {
     uint32_t buffer; /* stored: the index of the buffer; else 0 */
 };
 
-/* What can be said of the film of the last run. */
+/* What can be said of the film of a stream's last run. */
 enum { TG_RUNNING = 0, TG_BLANK = 1, TG_GAPS = 2, TG_COMPLETE = 3 };
 
 /* A plane of a frame: `length` bytes from `start` on. A refusal is 22, 0, 0. */
@@ -98,21 +116,30 @@ struct tg_plane {
     size_t length;
 };
 
-/* Makes a device of a sheet, for a picture memory of this length: 0, or 22 and a closed device. The sheet is
- * copied. What `d` held before does not matter. */
-uint32_t tg_open(struct tg_device *d, const uint8_t *sheet, size_t sheet_length, uint64_t picture_length);
+/* Makes a device of a sheet, for a picture memory and a caption memory of these lengths, each at most 1,073,741,824: 0, or
+ * 22 and a closed device. A memory of length 0 holds no buffer. The sheet is copied. What `d` held before does not
+ * matter. */
+uint32_t tg_open(struct tg_device *d, const uint8_t *sheet, size_t sheet_length, uint64_t picture_length,
+                 uint64_t caption_length);
 
 /* A request: its word, and its argument in the 32-bit little-endian layout. The number given back. */
 uint32_t tg_request(struct tg_device *d, uint32_t word, uint8_t *argument, size_t length);
 
-/* A frame arrives. `memory` is the picture memory; only a stored frame is written, into its buffer's slot. */
-struct tg_arrived tg_arrival(struct tg_device *d, uint8_t *memory, size_t memory_length, const uint8_t *frame,
-                             size_t frame_length, int32_t seconds, int32_t microseconds);
+/* A frame arrives at the stream of this type; another type is refused with 22. `memory` is the memory of that stream, of the
+ * length told at opening, else 14; only a stored frame is written, its own bytes and no more, at the start of its buffer's
+ * slot. A frame is whole, and not damaged, if its microseconds are in 0..999,999 and
+ *   - of type 1: its length is the image size;
+ *   - of type 6: it is records of 64 bytes, none or more, in any order: service at 0, field (0 or 1) at 4, line at 8, each
+ *     of 32 bits, a reserved word and 48 bytes of payload. The service is exactly one of the four, negotiated on that line
+ *     of that field by the answer of the stream's last accepted S_FMT, and no line of a field comes twice. */
+struct tg_arrived tg_arrival(struct tg_device *d, uint32_t type, uint8_t *memory, size_t memory_length,
+                             const uint8_t *frame, size_t frame_length, int32_t seconds, int32_t microseconds);
 
-/* TG_RUNNING while streaming, else the verdict on the last run: TG_BLANK, TG_GAPS or TG_COMPLETE. */
-uint32_t tg_verdict(const struct tg_device *d);
+/* Of the stream of this type: TG_RUNNING while streaming, else the verdict on its last run: TG_BLANK, TG_GAPS or
+ * TG_COMPLETE. Of another type: TG_BLANK. */
+uint32_t tg_verdict(const struct tg_device *d, uint32_t type);
 
-/* Where a plane of a frame of the present format lies; planes count from 0. */
+/* Where a plane of a picture of the present format lies; planes count from 0. */
 struct tg_plane tg_plane(const struct tg_device *d, size_t frame_length, uint32_t plane);
 
 #ifdef __cplusplus

@@ -6,17 +6,18 @@ use crate::setup::{self, Aligned};
 use std::hint::black_box;
 use tollgutter_tests::model::format::YUYV;
 use tollgutter_tests::model::words::{DQBUF, QBUF, REQBUFS, STREAMOFF, STREAMON, S_FMT};
-use tollgutter_tests::recorder::{Recorder, DAMAGED, DROPPED, STORED};
+use tollgutter_tests::recorder::{Recorder, CAPTIONS, DAMAGED, DROPPED, PICTURES, STORED};
 use tollgutter_tests::{ffi, model};
 
 const BUFFERS: u32 = 8;
 
-/// An arrival of the smallest frame, and what it is answered.
+/// An arrival of the smallest picture, or of caption lines, and what it is answered.
 #[derive(Clone, Copy)]
 struct Case {
     name: &'static str,
+    kind: u32,
     answer: u32,
-    /// How many bytes the frame has.
+    /// How many bytes of the frame arrive.
     length: usize,
     /// How many buffers wait when a batch begins.
     waiting: u32,
@@ -25,16 +26,32 @@ struct Case {
     each: usize,
 }
 
-const CASES: [Case; 3] = [
-    Case { name: "stored, a frame of 4 bytes", answer: STORED, length: 4, waiting: BUFFERS, devices: 4, each: 8 },
-    Case { name: "damaged, 3 bytes of 4", answer: DAMAGED, length: 3, waiting: BUFFERS, devices: 1, each: 64 },
-    Case { name: "dropped, no buffer waits", answer: DROPPED, length: 4, waiting: 0, devices: 1, each: 64 },
+const PICTURE: Case = Case {
+    name: "stored, a frame of 4 bytes",
+    kind: PICTURES,
+    answer: STORED,
+    length: 4,
+    waiting: BUFFERS,
+    devices: 4,
+    each: 8,
+};
+const LINES: Case = Case { name: "captions stored, 33 records", kind: CAPTIONS, length: 33 * 64, ..PICTURE };
+
+const CASES: [Case; 7] = [
+    PICTURE,
+    Case { name: "damaged, 3 bytes of 4", answer: DAMAGED, length: 3, devices: 1, each: 64, ..PICTURE },
+    Case { name: "dropped, no buffer waits", answer: DROPPED, waiting: 0, devices: 1, each: 64, ..PICTURE },
+    LINES,
+    Case { name: "captions stored, 1 record", length: 64, ..LINES },
+    Case { name: "captions stored, no record", length: 0, ..LINES },
+    Case { name: "captions dropped, 33 records", answer: DROPPED, waiting: 0, devices: 1, each: 64, ..LINES },
 ];
 
 struct Decision<R> {
     case: Case,
     devices: Vec<Aligned<R>>,
     memory: Vec<u8>,
+    frame: Vec<u8>,
 }
 
 impl<R: Called> Decision<R> {
@@ -43,7 +60,9 @@ impl<R: Called> Decision<R> {
         for Aligned(device) in &mut devices {
             setup::smallest(device, BUFFERS);
         }
-        let mut decision = Decision { case, devices, memory: vec![0; setup::MEMORY] };
+        let mut frame = if case.kind == CAPTIONS { setup::all_lines() } else { setup::SMALLEST_FRAME.to_vec() };
+        frame.truncate(case.length);
+        let mut decision = Decision { case, devices, memory: vec![0; setup::MEMORY], frame };
         decision.check();
         decision
     }
@@ -53,8 +72,8 @@ impl<R: Called> Decision<R> {
         self.ready();
         for Aligned(device) in &mut self.devices {
             for _ in 0..self.case.each {
-                let frame = &setup::SMALLEST_FRAME[..self.case.length];
-                assert_eq!(device.arrival(&mut self.memory, frame, 1, 2).answer, self.case.answer);
+                let arrived = device.arrival(self.case.kind, &mut self.memory, &self.frame, 1, 2);
+                assert_eq!(arrived.answer, self.case.answer, "{}", self.case.name);
             }
         }
     }
@@ -62,21 +81,22 @@ impl<R: Called> Decision<R> {
 
 impl<R: Called> Side for Decision<R> {
     fn ready(&mut self) {
+        let Case { kind, waiting, .. } = self.case;
         for Aligned(device) in &mut self.devices {
-            setup::done(device, STREAMOFF, &[(0, 1)]);
-            setup::queue(device, self.case.waiting);
-            setup::done(device, STREAMON, &[(0, 1)]);
+            setup::done(device, STREAMOFF, &[(0, kind)]);
+            setup::queue(device, kind, waiting);
+            setup::done(device, STREAMON, &[(0, kind)]);
         }
     }
 
     fn batch(&mut self) {
         let memory = black_box(&mut self.memory);
-        let frame = black_box(&setup::SMALLEST_FRAME[..self.case.length]);
-        let (seconds, microseconds) = black_box((1, 2));
+        let frame = black_box(&self.frame);
+        let (kind, seconds, microseconds) = black_box((self.case.kind, 1, 2));
         for Aligned(device) in &mut self.devices {
             for _ in 0..self.case.each {
                 // By reference: a copy of the answer would be read before its parts are written out, and wait for them.
-                black_box(&device.call_arrival(memory, frame, seconds, microseconds));
+                black_box(&device.call_arrival(kind, memory, frame, seconds, microseconds));
             }
         }
     }
@@ -118,7 +138,8 @@ impl Side for Frame {
     }
 
     fn batch(&mut self) {
-        let told = self.device.0.call_arrival(black_box(&mut self.memory), black_box(&self.frame), 1, 2);
+        let (memory, frame) = (black_box(&mut self.memory), black_box(&self.frame));
+        let told = self.device.0.call_arrival(PICTURES, memory, frame, 1, 2);
         assert_eq!(told.answer, STORED);
         self.outgoing = true;
     }
@@ -149,7 +170,7 @@ impl Side for Copy {
 
 fn frame((bytes, width, height): (usize, u32, u32)) -> Row {
     let mut device = ffi::Device::zeroed();
-    assert_eq!(device.open(&setup::bench_sheet(), FRAME_MEMORY as u64), 0);
+    assert_eq!(device.open(&setup::bench_sheet(), [FRAME_MEMORY as u64, 0]), 0);
     setup::done(&mut device, S_FMT, &[(0, 1), (4, width), (8, height), (12, YUYV)]);
     setup::done(&mut device, REQBUFS, &[(0, 1), (4, 1), (8, 1)]);
     setup::done(&mut device, STREAMON, &[(0, 1)]);

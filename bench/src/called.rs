@@ -5,16 +5,16 @@ use tollgutter_tests::{ffi, model};
 
 /// A device and its three calls that are measured.
 pub trait Called: Recorder {
-    fn call_open(&mut self, sheet: &[u8], picture_length: u64) -> u32;
+    fn call_open(&mut self, sheet: &[u8], lengths: [u64; 2]) -> u32;
     fn call_request(&mut self, word: u32, argument: &mut [u8]) -> u32;
-    fn call_arrival(&mut self, memory: &mut [u8], frame: &[u8], seconds: i32, microseconds: i32) -> Arrived;
+    fn call_arrival(&mut self, kind: u32, memory: &mut [u8], frame: &[u8], seconds: i32, microseconds: i32) -> Arrived;
 }
 
 // The library comes as an archive, so that its functions are called in any case.
 impl Called for ffi::Device {
     #[inline(always)]
-    fn call_open(&mut self, sheet: &[u8], picture_length: u64) -> u32 {
-        self.open(sheet, picture_length)
+    fn call_open(&mut self, sheet: &[u8], lengths: [u64; 2]) -> u32 {
+        self.open(sheet, lengths)
     }
 
     #[inline(always)]
@@ -23,16 +23,16 @@ impl Called for ffi::Device {
     }
 
     #[inline(always)]
-    fn call_arrival(&mut self, memory: &mut [u8], frame: &[u8], seconds: i32, microseconds: i32) -> Arrived {
-        self.arrival(memory, frame, seconds, microseconds)
+    fn call_arrival(&mut self, kind: u32, memory: &mut [u8], frame: &[u8], seconds: i32, microseconds: i32) -> Arrived {
+        self.arrival(kind, memory, frame, seconds, microseconds)
     }
 }
 
 // Inlined into the loop of a batch, the model would be the model for one word only.
 impl Called for model::Device {
     #[inline(always)]
-    fn call_open(&mut self, sheet: &[u8], picture_length: u64) -> u32 {
-        rust_open(self, sheet, picture_length)
+    fn call_open(&mut self, sheet: &[u8], lengths: [u64; 2]) -> u32 {
+        rust_open(self, sheet, lengths)
     }
 
     #[inline(always)]
@@ -41,14 +41,14 @@ impl Called for model::Device {
     }
 
     #[inline(always)]
-    fn call_arrival(&mut self, memory: &mut [u8], frame: &[u8], seconds: i32, microseconds: i32) -> Arrived {
-        rust_arrival(self, memory, frame, seconds, microseconds)
+    fn call_arrival(&mut self, kind: u32, memory: &mut [u8], frame: &[u8], seconds: i32, microseconds: i32) -> Arrived {
+        rust_arrival(self, kind, memory, frame, seconds, microseconds)
     }
 }
 
 #[inline(never)]
-fn rust_open(device: &mut model::Device, sheet: &[u8], picture_length: u64) -> u32 {
-    Recorder::open(device, sheet, picture_length)
+fn rust_open(device: &mut model::Device, sheet: &[u8], lengths: [u64; 2]) -> u32 {
+    Recorder::open(device, sheet, lengths)
 }
 
 #[inline(never)]
@@ -59,10 +59,11 @@ fn rust_request(device: &mut model::Device, word: u32, argument: &mut [u8]) -> u
 #[inline(never)]
 fn rust_arrival(
     device: &mut model::Device,
+    kind: u32,
     memory: &mut [u8],
     frame: &[u8],
     seconds: i32,
     microseconds: i32,
 ) -> Arrived {
-    device.arrival(memory, frame, seconds, microseconds)
+    device.arrival(kind, memory, frame, seconds, microseconds)
 }

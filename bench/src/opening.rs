@@ -18,7 +18,7 @@ impl<R: Called> Side for Opening<R> {
 
     fn batch(&mut self) {
         for _ in 0..OPENINGS {
-            assert_eq!(self.device.0.call_open(black_box(&self.sheet), 1 << 20), 0);
+            assert_eq!(self.device.0.call_open(black_box(&self.sheet), [1 << 20; 2]), 0);
         }
     }
 

@@ -1,4 +1,5 @@
-//! The seventeen requests and an unknown word, each accepted (the unknown one refused).
+//! The eighteen requests and an unknown word, each accepted (the unknown one refused); four of them on the caption stream
+//! too.
 
 use crate::called::Called;
 use crate::rounds::{Row, Side};
@@ -6,6 +7,7 @@ use crate::setup::{self, Aligned};
 use std::hint::black_box;
 use tollgutter_tests::model::format::YU12;
 use tollgutter_tests::model::words::*;
+use tollgutter_tests::recorder::{CAPTIONS, PICTURES};
 use tollgutter_tests::{ffi, model};
 
 const CONTRAST: u32 = 0x0098_0901;
@@ -42,6 +44,8 @@ struct Case {
     name: &'static str,
     word: u32,
     fields: &'static [(usize, u32)],
+    /// The stream that has the buffers.
+    kind: u32,
     buffers: u32,
     before: Before,
     calls: Calls,
@@ -95,11 +99,18 @@ impl Case {
 }
 
 const fn plain(name: &'static str, word: u32, fields: &'static [(usize, u32)]) -> Case {
-    Case { name, word, fields, buffers: USUAL, before: Before::Dequeued, calls: Calls::Many }
+    Case { name, word, fields, kind: PICTURES, buffers: USUAL, before: Before::Dequeued, calls: Calls::Many }
+}
+
+/// The same on the caption stream.
+const fn captions(name: &'static str, fields: &'static [(usize, u32)], case: Case) -> Case {
+    Case { name, fields, kind: CAPTIONS, ..case }
 }
 
 const WISH: &[(usize, u32)] = &[(0, 1), (4, 300), (8, 201), (12, YU12)];
 const BUFFER: &[(usize, u32)] = &[(4, 1), (48, 1)];
+const ALL_SERVICES: &[(usize, u32)] = &[(0, CAPTIONS), (4, 0x5401)];
+const CAPTION_BUFFER: &[(usize, u32)] = &[(4, CAPTIONS), (48, 1)];
 
 const REQBUFS_CASE: Case =
     Case { before: Before::Queued, calls: Calls::Once, ..plain("REQBUFS", REQBUFS, &[(4, 1), (8, 1)]) };
@@ -109,13 +120,16 @@ const DQBUF_CASE: Case = Case { before: Before::Filled, calls: Calls::Buffers, .
 const STREAMOFF_CASE: Case =
     Case { before: Before::Filled, calls: Calls::Once, ..plain("STREAMOFF", STREAMOFF, &[(0, 1)]) };
 
-const CASES: [Case; 18] = [
+const S_FMT_CASE: Case = Case { buffers: 0, ..plain("S_FMT", S_FMT, WISH) };
+const TRY_FMT_CASE: Case = plain("TRY_FMT", TRY_FMT, WISH);
+
+const CASES: [Case; 23] = [
     plain("QUERYCAP", QUERYCAP, &[]),
     plain("ENUM_FMT", ENUM_FMT, &[(0, 1), (4, 1)]),
     plain("G_FMT", G_FMT, &[(0, 1)]),
     // Refused while there are buffers, so there are none.
-    Case { buffers: 0, ..plain("S_FMT", S_FMT, WISH) },
-    plain("TRY_FMT", TRY_FMT, WISH),
+    S_FMT_CASE,
+    TRY_FMT_CASE,
     REQBUFS_CASE,
     QUERYBUF_CASE,
     QBUF_CASE,
@@ -128,6 +142,11 @@ const CASES: [Case; 18] = [
     plain("CROPCAP", CROPCAP, &[(0, 1)]),
     plain("G_CROP", G_CROP, &[(0, 1)]),
     plain("S_CROP", S_CROP, &[(0, 1), (4, 100), (8, 20), (12, 608), (16, 300)]),
+    plain("G_SLICED_VBI_CAP", G_SLICED_VBI_CAP, &[(100, CAPTIONS)]),
+    captions("S_FMT of captions", ALL_SERVICES, S_FMT_CASE),
+    captions("TRY_FMT of captions", ALL_SERVICES, TRY_FMT_CASE),
+    captions("QBUF of captions", CAPTION_BUFFER, QBUF_CASE),
+    captions("DQBUF of captions", CAPTION_BUFFER, DQBUF_CASE),
     plain("an unknown word", UNKNOWN, &[]),
 ];
 
@@ -159,7 +178,7 @@ impl<R: Called> Batch<R> {
         let (count, each) = case.shape();
         let mut devices: Vec<Aligned<R>> = (0..count).map(|_| Aligned(make())).collect();
         for Aligned(device) in &mut devices {
-            setup::small(device, case.buffers);
+            setup::small(device, case.kind, case.buffers);
         }
         let first: Vec<Vec<u8>> = (0..each).map(|number| case.argument(number)).collect();
         let steps = (0..count * each).map(|i| Step { device: i / each, argument: first[i % each].clone() }).collect();
@@ -183,13 +202,14 @@ impl<R: Called> Side for Batch<R> {
         for (i, step) in self.steps.iter_mut().enumerate() {
             step.argument.copy_from_slice(&self.first[i % each]);
         }
+        let Case { kind, buffers, before, .. } = self.case;
         for Aligned(device) in &mut self.devices {
-            setup::done(device, STREAMOFF, &[(0, 1)]);
-            if matches!(self.case.before, Before::Queued | Before::Filled) {
-                setup::queue(device, self.case.buffers);
+            setup::done(device, STREAMOFF, &[(0, kind)]);
+            if matches!(before, Before::Queued | Before::Filled) {
+                setup::queue(device, kind, buffers);
             }
-            if matches!(self.case.before, Before::Filled) {
-                setup::fill(device, self.case.buffers, &mut self.memory);
+            if matches!(before, Before::Filled) {
+                setup::fill(device, kind, buffers, &mut self.memory);
             }
         }
     }

@@ -7,7 +7,7 @@
 
 enum {
     QUERYCAP, ENUM_FMT, G_FMT, S_FMT, TRY_FMT, REQBUFS, QUERYBUF, QBUF, DQBUF,
-    STREAMON, STREAMOFF, G_CTRL, S_CTRL, QUERYCTRL, CROPCAP, G_CROP, S_CROP, CALLS
+    STREAMON, STREAMOFF, G_CTRL, S_CTRL, QUERYCTRL, CROPCAP, G_CROP, S_CROP, G_SLICED_VBI_CAP, CALLS
 };
 
 static const struct { const char *name; uint32_t word; } calls[CALLS] = {
@@ -15,9 +15,10 @@ static const struct { const char *name; uint32_t word; } calls[CALLS] = {
     {"TRY_FMT", 0xC0CC5640u}, {"REQBUFS", 0xC0145608u}, {"QUERYBUF", 0xC0445609u}, {"QBUF", 0xC044560Fu},
     {"DQBUF", 0xC0445611u}, {"STREAMON", 0x40045612u}, {"STREAMOFF", 0x40045613u}, {"G_CTRL", 0xC008561Bu},
     {"S_CTRL", 0xC008561Cu}, {"QUERYCTRL", 0xC0445624u}, {"CROPCAP", 0xC02C563Au}, {"G_CROP", 0xC014563Bu},
-    {"S_CROP", 0x4014563Cu},
+    {"S_CROP", 0x4014563Cu}, {"G_SLICED_VBI_CAP", 0xC0745645u},
 };
 
+enum { PICTURES = 1, CAPTIONS = 6, LOAD = 0x1000, RECORD = 64, LINES = 8 * 4096 + 100 };
 enum { MEMORY = 2000000, WIDTH = 160, HEIGHT = 120, LINE = 320, IMAGE = LINE * HEIGHT, SLOT = 40960, GUARD = 64 };
 #define YUYV 0x56595559u
 #define YU12 0x32315559u
@@ -73,20 +74,25 @@ static struct {
     uint8_t behind[GUARD];
 } box;
 
-static uint8_t memory[MEMORY], frame[IMAGE], argument[204];
+static uint8_t memory[MEMORY], lines[LINES], frame[IMAGE], argument[204];
 
 static uint32_t request(int call)
 {
     return tg_request(&box.device, calls[call].word, argument, (calls[call].word >> 16) & 0x3fff);
 }
 
-static uint32_t buffer(int call, uint32_t index)
+static uint32_t buffer_of(int call, uint32_t type, uint32_t index)
 {
     memset(argument, 0, sizeof argument);
     put(argument, index);
-    put(argument + 4, 1);
+    put(argument + 4, type);
     put(argument + 48, 1);
     return request(call);
+}
+
+static uint32_t buffer(int call, uint32_t index)
+{
+    return buffer_of(call, PICTURES, index);
 }
 
 static uint32_t simple(int call, uint32_t a, uint32_t b, uint32_t c, uint32_t d, uint32_t e)
@@ -103,12 +109,17 @@ static uint32_t simple(int call, uint32_t a, uint32_t b, uint32_t c, uint32_t d,
 static struct tg_arrived arrive(uint8_t fill, size_t length, int32_t seconds, int32_t microseconds)
 {
     memset(frame, fill, sizeof frame);
-    return tg_arrival(&box.device, memory, sizeof memory, frame, length, seconds, microseconds);
+    return tg_arrival(&box.device, PICTURES, memory, sizeof memory, frame, length, seconds, microseconds);
+}
+
+static uint32_t verdict(uint32_t type)
+{
+    return tg_verdict(&box.device, type);
 }
 
 static void sizes(void)
 {
-    expect("sizeof tg_device", 4520, sizeof(struct tg_device));
+    expect("sizeof tg_device", 6280, sizeof(struct tg_device));
     expect("sizeof tg_setup", 40, sizeof(struct tg_setup));
     expect("sizeof tg_stream", 1664, sizeof(struct tg_stream));
     expect("sizeof tg_arrived", 12, sizeof(struct tg_arrived));
@@ -116,6 +127,8 @@ static void sizes(void)
     expect("offset of setup", 2688, offsetof(struct tg_device, setup));
     expect("offset of values", 2728, offsetof(struct tg_device, values));
     expect("offset of video", 2856, offsetof(struct tg_device, video));
+    expect("offset of captions", 4520, offsetof(struct tg_device, captions));
+    expect("offset of services", 6184, offsetof(struct tg_device, services));
     expect("offset of lined", 88, offsetof(struct tg_stream, lined));
     expect("offset of spare", 96, offsetof(struct tg_stream, spare));
     expect("offset of index", 128, offsetof(struct tg_stream, index));
@@ -129,10 +142,12 @@ static void closed(void)
     memset(argument, 0, sizeof argument);
     expect("all zero: QUERYCAP", 22, tg_request(&zero, calls[QUERYCAP].word, argument, 104));
     expect("all zero: unknown word", 22, tg_request(&zero, 0x12345678u, argument, 4));
-    expect("all zero: verdict", TG_BLANK, tg_verdict(&zero));
+    expect("all zero: verdict", TG_BLANK, tg_verdict(&zero, PICTURES));
+    expect("all zero: verdict of captions", TG_BLANK, tg_verdict(&zero, CAPTIONS));
     expect("all zero: plane", 22, tg_plane(&zero, 0, 0).number);
-    expect("all zero: arrival", 22, tg_arrival(&zero, memory, 0, frame, 0, 0, 0).number);
-    expect("bad sheet", 22, tg_open(&box.device, memory, sizeof memory, MEMORY));
+    expect("all zero: arrival", 22, tg_arrival(&zero, PICTURES, memory, 0, frame, 0, 0, 0).number);
+    expect("all zero: arrival of captions", 22, tg_arrival(&zero, CAPTIONS, lines, 0, frame, 0, 0, 0).number);
+    expect("bad sheet", 22, tg_open(&box.device, memory, sizeof memory, MEMORY, LINES));
     expect("bad sheet: sheet", 0, (uint64_t)memcmp(box.device.sheet, zero.sheet, sizeof zero.sheet));
     expect("bad sheet: ready", 0, box.device.setup.ready);
     expect("bad sheet: closed", 22, tg_request(&box.device, calls[QUERYCAP].word, argument, 104));
@@ -141,22 +156,48 @@ static void closed(void)
 /* What is not used yet stays zero. */
 static void unused(void)
 {
-    const struct tg_stream *v = &box.device.video;
+    const struct tg_stream *v = &box.device.video, *c = &box.device.captions;
     int i;
-    for (i = 0; i < 4; i++) expect("video.spare", 0, v->spare[i]);
-    for (i = 0; i < 32; i++) expect("video.maps", 0, v->maps[i]);
+    for (i = 0; i < 4; i++) expect("spare", 0, v->spare[i] | c->spare[i]);
+    for (i = 0; i < 32; i++) expect("maps", 0, v->maps[i] | c->maps[i]);
+}
+
+/* A stream as it is after an opening. */
+static void fresh(const struct tg_stream *s, uint64_t length)
+{
+    int i;
+    expect("length", length, s->length);
+    expect("streaming", 0, s->streaming);
+    expect("ran", 0, s->ran);
+    expect("accepted", 0, s->accepted);
+    expect("handed", 0, s->handed);
+    expect("damaged", 0, s->damaged);
+    expect("dropped", 0, s->dropped);
+    expect("discarded", 0, s->discarded);
+    expect("granted", 0, s->granted);
+    expect("head", 0, s->head);
+    expect("holding", 0, s->holding);
+    expect("lined", 0, s->lined);
+    for (i = 0; i < 32; i++) {
+        expect("index", 0, s->index[i]);
+        expect("number", 0, s->number[i]);
+        expect("used", 0, s->used[i]);
+        expect("seconds", 0, s->seconds[i]);
+        expect("microseconds", 0, s->microseconds[i]);
+    }
 }
 
 static void opening(void)
 {
     uint8_t sheet[324], rest[2688 - 324];
     const struct tg_device *s = &box.device;
-    const struct tg_stream *v = &box.device.video;
     size_t length = make_sheet(sheet);
     int i;
     memset(&box, 0xA5, sizeof box);
     memset(rest, 0, sizeof rest);
-    expect("open", 0, tg_open(&box.device, sheet, length, MEMORY));
+    expect("picture memory too long", 22, tg_open(&box.device, sheet, length, 1073741825, LINES));
+    expect("caption memory too long", 22, tg_open(&box.device, sheet, length, MEMORY, 1073741825));
+    expect("open", 0, tg_open(&box.device, sheet, length, MEMORY, LINES));
     expect("sheet", 0, (uint64_t)memcmp(box.device.sheet, sheet, length));
     expect("sheet, the rest", 0, (uint64_t)memcmp(box.device.sheet + length, rest, sizeof rest));
     expect("ready", 1, s->setup.ready);
@@ -171,25 +212,9 @@ static void opening(void)
     expect("crop.height", 400, (uint32_t)s->setup.crop.height);
     expect("values[0]", (uint32_t)-2, s->values[0]);
     for (i = 1; i < 32; i++) expect("values[i]", 0, s->values[i]);
-    expect("video.length", MEMORY, v->length);
-    expect("video.streaming", 0, v->streaming);
-    expect("video.ran", 0, v->ran);
-    expect("video.accepted", 0, v->accepted);
-    expect("video.handed", 0, v->handed);
-    expect("video.damaged", 0, v->damaged);
-    expect("video.dropped", 0, v->dropped);
-    expect("video.discarded", 0, v->discarded);
-    expect("video.granted", 0, v->granted);
-    expect("video.head", 0, v->head);
-    expect("video.holding", 0, v->holding);
-    expect("video.lined", 0, v->lined);
-    for (i = 0; i < 32; i++) {
-        expect("video.index", 0, v->index[i]);
-        expect("video.number", 0, v->number[i]);
-        expect("video.used", 0, v->used[i]);
-        expect("video.seconds", 0, v->seconds[i]);
-        expect("video.microseconds", 0, v->microseconds[i]);
-    }
+    fresh(&s->video, MEMORY);
+    fresh(&s->captions, LINES);
+    for (i = 0; i < 48; i++) expect("services", 0, s->services[i]);
     unused();
 }
 
@@ -217,6 +242,9 @@ static void settings(void)
     expect("values[0]", 6, s->values[0]);
     expect("unknown word", 25, tg_request(&box.device, 0x12345678u, argument, 4));
     expect("wrong length", 14, tg_request(&box.device, calls[G_FMT].word, argument, 203));
+    memset(argument, 0xA5, sizeof argument);
+    expect("QUERYCAP", 0, request(QUERYCAP));
+    expect("QUERYCAP: capabilities", 0x04000041, get(argument + 84));
 }
 
 /* How many of the line hold a frame, and how many stand in it. */
@@ -270,7 +298,7 @@ static void fill(void)
     expect("STREAMON", 0, simple(STREAMON, 1, 0, 0, 0, 0));
     expect("video.streaming", 1, v->streaming);
     expect("video.ran", 1, v->ran);
-    expect("verdict", TG_RUNNING, tg_verdict(&box.device));
+    expect("verdict", TG_RUNNING, verdict(PICTURES));
     expect("DQBUF", 11, buffer(DQBUF, 0));
     expect("short frame", TG_DAMAGED, arrive(1, IMAGE - 1, 1, 1).answer);
     for (i = 1; i <= 32; i++) {
@@ -327,7 +355,7 @@ static void go_on(void)
     expect("video.handed", 5, v->handed);
     expect("video.discarded", 28, v->discarded);
     expect("video.granted", 32, v->granted);
-    expect("verdict", TG_GAPS, tg_verdict(&box.device));
+    expect("verdict", TG_GAPS, verdict(PICTURES));
 }
 
 /* Three buffers, 40 frames: the line goes round the arrays. While one frame waits to be handed over the next arrives. */
@@ -362,7 +390,8 @@ static void go_round(void)
     expect("video.accepted", 40, v->accepted);
     expect("video.handed", 40, v->handed);
     expect("video.discarded", 0, v->discarded);
-    expect("verdict", TG_COMPLETE, tg_verdict(&box.device));
+    expect("verdict", TG_COMPLETE, verdict(PICTURES));
+    fresh(&box.device.captions, LINES);
     unused();
 }
 
@@ -370,7 +399,7 @@ static void outside_a_run(void)
 {
     struct tg_arrived a;
     expect("ignored", TG_IGNORED, arrive(1, IMAGE, 0, 0).answer);
-    a = tg_arrival(&box.device, memory, sizeof memory - 1, frame, IMAGE, 0, 0);
+    a = tg_arrival(&box.device, PICTURES, memory, sizeof memory - 1, frame, IMAGE, 0, 0);
     expect("wrong memory", TG_REFUSED, a.answer);
     expect("wrong memory: number", 14, a.number);
     expect("video.length", MEMORY, box.device.video.length);
@@ -391,9 +420,146 @@ static void planes(void)
     expect("plane refused: length", 0, p.length);
 }
 
+/* A record: the reading of the load cell, two bytes, on a line of a field. */
+static void record(uint8_t *at, uint32_t service, uint32_t field, uint32_t line_number, uint16_t reading)
+{
+    memset(at, 0, RECORD);
+    put(at, service);
+    put(at + 4, field);
+    put(at + 8, line_number);
+    at[16] = (uint8_t)reading;
+    at[17] = (uint8_t)(reading >> 8);
+}
+
+/* So many bytes of the frame arrive as caption lines. */
+static struct tg_arrived lines_arrive(size_t length, int32_t seconds, int32_t microseconds)
+{
+    return tg_arrival(&box.device, CAPTIONS, lines, sizeof lines, frame, length, seconds, microseconds);
+}
+
+/* What is offered, and the load line of both fields negotiated out of it. The lines stand at 2, and at 6 in a format. */
+static void negotiate(void)
+{
+    uint32_t i, carrying = 0;
+    memset(argument, 0xA5, sizeof argument);
+    put(argument + 100, CAPTIONS);
+    expect("G_SLICED_VBI_CAP", 0, request(G_SLICED_VBI_CAP));
+    expect("G_SLICED_VBI_CAP: services", 0x5401, get(argument) & 0xffff);
+    for (i = 0; i < 48; i++) carrying += (argument[2 + 2 * i] | argument[3 + 2 * i]) != 0;
+    expect("G_SLICED_VBI_CAP: lines", 33, carrying);
+    expect("G_SLICED_VBI_CAP: line 16", 0x0401, argument[34] | (uint32_t)argument[35] << 8);
+    expect("G_SLICED_VBI_CAP: line 21", 0x1001, argument[44] | (uint32_t)argument[45] << 8);
+    expect("G_SLICED_VBI_CAP: padding", 0, argument[98] | argument[99]);
+    expect("G_SLICED_VBI_CAP: type", CAPTIONS, get(argument + 100));
+    expect("G_SLICED_VBI_CAP: reserved", 0, get(argument + 104) | get(argument + 108) | get(argument + 112));
+    put(argument + 100, PICTURES);
+    expect("G_SLICED_VBI_CAP of pictures", 22, request(G_SLICED_VBI_CAP));
+    expect("REQBUFS without services", 0, simple(REQBUFS, 4, CAPTIONS, 1, 0, 0));
+    expect("REQBUFS without services: count", 0, get(argument));
+    expect("S_FMT of captions", 0, simple(S_FMT, CAPTIONS, LOAD, 0, 0, 0));
+    expect("S_FMT of captions: type", CAPTIONS, get(argument));
+    expect("S_FMT of captions: services", LOAD, get(argument + 4) & 0xffff);
+    expect("S_FMT of captions: io_size", 2 * RECORD, get(argument + 104));
+    for (i = 0; i < 48; i++) {
+        expect("S_FMT of captions: lines", i % 24 == 21 ? LOAD : 0, argument[6 + 2 * i] | (uint32_t)argument[7 + 2 * i] << 8);
+        expect("services", i % 24 == 21 ? LOAD : 0, box.device.services[i]);
+    }
+    expect("S_FMT of type 2", 22, simple(S_FMT, 2, LOAD, 0, 0, 0));
+}
+
+/* A run of captions beside one of pictures: the reading comes back, and both films are complete. */
+static void both_complete(void)
+{
+    const struct tg_stream *c = &box.device.captions;
+    struct tg_arrived a;
+    expect("REQBUFS of captions", 0, simple(REQBUFS, 40, CAPTIONS, 1, 0, 0));
+    expect("REQBUFS of captions: count", 8, get(argument));
+    expect("captions.granted", 8, c->granted);
+    expect("S_FMT of captions with buffers", 16, simple(S_FMT, CAPTIONS, LOAD, 0, 0, 0));
+    expect("QBUF of captions", 0, buffer_of(QBUF, CAPTIONS, 3));
+    expect("QBUF of captions: type", CAPTIONS, get(argument + 4));
+    expect("STREAMON of captions", 0, simple(STREAMON, CAPTIONS, 0, 0, 0, 0));
+    expect("verdict of captions", TG_RUNNING, verdict(CAPTIONS));
+    expect("verdict of pictures", TG_COMPLETE, verdict(PICTURES));
+    expect("QBUF", 0, buffer(QBUF, 0));
+    expect("STREAMON", 0, simple(STREAMON, PICTURES, 0, 0, 0, 0));
+
+    record(frame, LOAD, 0, 21, 0x1234);
+    a = lines_arrive(RECORD, -5, 999999);
+    expect("captions stored", TG_STORED, a.answer);
+    expect("captions stored: number", 0, a.number);
+    expect("captions stored: buffer", 3, a.buffer);
+    expect("captions stored: bytes", 0, (uint64_t)memcmp(lines + 3 * 4096, frame, RECORD));
+    expect("captions stored: no more bytes", 0x5A, lines[3 * 4096 + RECORD]);
+    expect("captions.used", RECORD, c->used[c->head % 32]);
+    expect("DQBUF of captions", 0, buffer_of(DQBUF, CAPTIONS, 0));
+    expect("DQBUF of captions: index", 3, get(argument));
+    expect("DQBUF of captions: type", CAPTIONS, get(argument + 4));
+    expect("DQBUF of captions: bytes used", RECORD, get(argument + 8));
+    expect("DQBUF of captions: field", 1, get(argument + 16));
+    expect("DQBUF of captions: seconds", (uint32_t)-5, get(argument + 20));
+    expect("DQBUF of captions: offset", 3 * 4096, get(argument + 52));
+    expect("DQBUF of captions: length", 4096, get(argument + 56));
+    expect("the reading", 0x1234, get(lines + get(argument + 52) + 16));
+    expect("stored", TG_STORED, arrive(1, IMAGE, 0, 0).answer);
+    expect("DQBUF", 0, buffer(DQBUF, 0));
+    expect("STREAMOFF of captions", 0, simple(STREAMOFF, CAPTIONS, 0, 0, 0, 0));
+    expect("verdict of captions", TG_COMPLETE, verdict(CAPTIONS));
+    expect("verdict of pictures", TG_RUNNING, verdict(PICTURES));
+    expect("STREAMOFF", 0, simple(STREAMOFF, PICTURES, 0, 0, 0, 0));
+    expect("verdict of pictures", TG_COMPLETE, verdict(PICTURES));
+    expect("verdict of captions, still", TG_COMPLETE, verdict(CAPTIONS));
+}
+
+/* Caption lines with a flaw each: a gap in the captions, while the film of pictures stays complete. */
+static void caption_gap(void)
+{
+    const struct tg_stream *c = &box.device.captions;
+    expect("QBUF of captions", 0, buffer_of(QBUF, CAPTIONS, 0));
+    expect("QBUF of captions", 0, buffer_of(QBUF, CAPTIONS, 1));
+    expect("STREAMON of captions", 0, simple(STREAMON, CAPTIONS, 0, 0, 0, 0));
+    record(frame, LOAD, 0, 21, 1);
+    record(frame + RECORD, LOAD, 1, 21, 2);
+    expect("not a whole record", TG_DAMAGED, lines_arrive(RECORD + 1, 0, 0).answer);
+    expect("a time that is none", TG_DAMAGED, lines_arrive(RECORD, 0, 1000000).answer);
+    expect("both fields", TG_STORED, lines_arrive(2 * RECORD, 0, 0).answer);
+    expect("no record", TG_STORED, lines_arrive(0, 0, 0).answer);
+    put(frame + RECORD + 4, 0);
+    expect("a line twice", TG_DAMAGED, lines_arrive(2 * RECORD, 0, 0).answer);
+    put(frame, 0x0001);
+    expect("a service that was not negotiated", TG_DAMAGED, lines_arrive(RECORD, 0, 0).answer);
+    expect("captions.damaged", 4, c->damaged);
+    expect("captions.accepted", 6, c->accepted);
+    expect("DQBUF of captions", 0, buffer_of(DQBUF, CAPTIONS, 0));
+    expect("DQBUF of captions: bytes used", 2 * RECORD, get(argument + 8));
+    expect("DQBUF of captions: number", 2, get(argument + 44));
+    expect("DQBUF of captions", 0, buffer_of(DQBUF, CAPTIONS, 0));
+    expect("DQBUF of captions: bytes used", 0, get(argument + 8));
+    expect("DQBUF of captions", 11, buffer_of(DQBUF, CAPTIONS, 0));
+    expect("STREAMOFF of captions", 0, simple(STREAMOFF, CAPTIONS, 0, 0, 0, 0));
+    expect("verdict of captions", TG_GAPS, verdict(CAPTIONS));
+    expect("verdict of pictures", TG_COMPLETE, verdict(PICTURES));
+}
+
+/* Types that name no stream, and memory that is another stream's. */
+static void other_types(void)
+{
+    struct tg_arrived a = tg_arrival(&box.device, 2, memory, sizeof memory, frame, 0, 0, 0);
+    expect("arrival of type 2", TG_REFUSED, a.answer);
+    expect("arrival of type 2: number", 22, a.number);
+    expect("STREAMON of type 2", 22, simple(STREAMON, 2, 0, 0, 0, 0));
+    expect("QUERYBUF of type 2", 22, buffer_of(QUERYBUF, 2, 0));
+    expect("CROPCAP of captions", 22, simple(CROPCAP, CAPTIONS, 0, 0, 0, 0));
+    expect("verdict of type 5", TG_BLANK, verdict(5));
+    a = tg_arrival(&box.device, CAPTIONS, memory, sizeof memory, frame, 0, 0, 0);
+    expect("captions with the picture memory", 14, a.number);
+    expect("captions.length", LINES, box.device.captions.length);
+}
+
 int main(void)
 {
     int i;
+    memset(lines, 0x5A, sizeof lines);
     sizes();
     closed();
     opening();
@@ -401,6 +567,11 @@ int main(void)
     fill();
     go_on();
     go_round();
+    negotiate();
+    both_complete();
+    caption_gap();
+    other_types();
+    unused();
     outside_a_run();
     planes();
     for (i = 0; i < GUARD; i++) expect("guards", 0xA5A5, (uint64_t)box.before[i] << 8 | box.behind[i]);

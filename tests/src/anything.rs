@@ -4,12 +4,14 @@
 
 use crate::coverage::{Coverage, NUMBERS};
 use crate::ffi::{at, Device, DEVICE_SIZE};
-use crate::generate::{self, sheets};
+use crate::generate::{self, captions, sheets};
 use crate::guarded::Guarded;
-use crate::model;
+use crate::model::bytes::{half, word};
+use crate::model::services::Lines;
+use crate::model::words::{size, G_FMT};
 use crate::random::{self, Random};
-use crate::recorder::{Arrived, Recorder, BLANK, COMPLETE, REFUSED, STORED};
-use crate::session::{Arrival, Lent, Step};
+use crate::recorder::{Arrived, Recorder, BLANK, CAPTIONS, COMPLETE, PICTURES, REFUSED, STORED, STREAMS};
+use crate::session::{Arrival, Frame, Lent, Step};
 use crate::show;
 
 /// Numbers for words of 64 bits: small, about 32, about 2^32 and about 2^64.
@@ -43,6 +45,12 @@ pub const NUMBERS_64: [u64; 24] = [
 /// The same for words of 32 bits.
 pub const NUMBERS_32: [u32; 12] = [0, 1, 2, 31, 32, 33, 255, 4096, 0x7fff_ffff, 0x8000_0000, u32::MAX - 1, u32::MAX];
 
+/// The same for sets of services: all offered, one, none, some that nothing offers.
+pub const NUMBERS_16: [u16; 8] = [0, 1, 0x400, 0x1000, 0x1001, 0x4000, 0x5401, u16::MAX];
+
+/// The memories that are lent: of the pictures, and of the captions.
+pub type Memories = [Guarded; 2];
+
 /// Runs about this many calls; says what went wrong, if anything did.
 pub fn run(seed: u64, calls: u64) -> Result<Coverage, String> {
     let mut coverage = Coverage::default();
@@ -58,18 +66,20 @@ pub fn run(seed: u64, calls: u64) -> Result<Coverage, String> {
 /// One device and the steps of one session on it.
 fn one(seed: u64, coverage: &mut Coverage) -> Result<(), String> {
     let mut random = Random::new(seed);
-    let length = random.pick(&[0, 100, 4096, 20_000, 50_000]);
+    let lengths = STREAMS.map(|_| random.pick(&[0, 100, 4096, 20_000, 50_000]));
     let zero = random.chance(10);
-    let mut device = if zero { Device::zeroed() } else { content(&mut random, length as u64) };
-    let mut memory = Guarded::default();
-    memory.reset(length, 0);
-    random.fill(memory.body_mut());
+    let mut device = if zero { Device::zeroed() } else { content(&mut random, lengths.map(|length| length as u64)) };
+    let mut memories = Memories::default();
+    for (memory, length) in memories.iter_mut().zip(lengths) {
+        memory.reset(length, 0);
+        random.fill(memory.body_mut());
+    }
     let session = generate::session(random.draw());
     for step in &session.steps {
         if zero {
-            closed(&mut device, step, memory.body_mut())?;
+            closed(&mut device, step, memories[0].body_mut())?;
         } else {
-            spoiled(&mut device, step, &mut memory, &mut random, coverage)
+            spoiled(&mut device, step, &mut memories, &mut random, coverage)
                 .map_err(|fault| format!("{}: {fault}", show::step(step)))?;
         }
         coverage.calls += 1;
@@ -83,13 +93,14 @@ fn closed(device: &mut Device, step: &Step, memory: &mut [u8]) -> Result<(), Str
         Step::Open { .. } => 22,
         Step::Request { word, argument } => device.request(*word, &mut argument.clone()),
         Step::Arrival(one) => {
-            let arrived = device.arrival(memory, &[], one.seconds, one.microseconds);
+            let arrived = device.arrival(one.kind, memory, &[], one.seconds, one.microseconds);
             check((arrived.answer, arrived.buffer) == (REFUSED, 0), "zeros answered an arrival")?;
             arrived.number
         }
         Step::Plane { frame_length, plane } => device.plane(*frame_length, *plane).number,
     };
-    check(number == 22 && device.verdict() == BLANK, "a device of zeros is not closed")?;
+    let blank = STREAMS.iter().all(|kind| device.verdict(*kind) == BLANK);
+    check(number == 22 && blank, "a device of zeros is not closed")?;
     check(kept(device) == [0; DEVICE_SIZE], "a device of zeros changed")
 }
 
@@ -97,7 +108,7 @@ fn closed(device: &mut Device, step: &Step, memory: &mut [u8]) -> Result<(), Str
 fn spoiled(
     device: &mut Device,
     step: &Step,
-    memory: &mut Guarded,
+    memories: &mut Memories,
     random: &mut Random,
     coverage: &mut Coverage,
 ) -> Result<(), String> {
@@ -107,66 +118,82 @@ fn spoiled(
     match step {
         // A device that was opened well gets one change at least.
         Step::Open { sheet, .. } if random.chance(50) => {
-            device.open(sheet, memory.body().len() as u64);
+            device.open(sheet, memories.each_ref().map(|memory| memory.body().len() as u64));
             change_word(random, device, at::SETUP);
         }
         Step::Open { .. } => {}
-        Step::Request { word, argument } => coverage.request(*word, request(device, *word, argument)?),
-        Step::Arrival(one) => coverage.arrival(arrival(device, memory, one, random)?),
+        Step::Request { word, argument } => coverage.request(*word, argument, request(device, *word, argument)?),
+        Step::Arrival(one) => coverage.arrival(one.kind, arrival(device, memories, one, random)?),
         Step::Plane { frame_length, plane: index } => plane(device, *frame_length, *index)?,
     }
-    check(device.verdict() <= COMPLETE, "a verdict that is none")
+    verdicts(device)
 }
 
-/// A device of some content; its picture memory is mostly of this length.
-fn content(random: &mut Random, length: u64) -> Device {
+/// The verdicts, with what holds of every verdict.
+pub fn verdicts(device: &Device) -> Result<(), String> {
+    check(STREAMS.iter().all(|kind| device.verdict(*kind) <= COMPLETE), "a verdict that is none")?;
+    check(device.verdict(5) == BLANK, "a verdict on no stream")
+}
+
+/// A device of some content; its memories are mostly of these lengths.
+fn content(random: &mut Random, lengths: [u64; 2]) -> Device {
     let mut device = Device::zeroed();
     match random.below(4) {
         0 => random.fill(&mut device.bytes),
         1 => {
-            device.open(&sheets::small(random).bytes(), length);
+            device.open(&sheets::small(random).bytes(), lengths);
             random.fill(&mut device.bytes[at::SETUP..]);
         }
         2 => {
-            device.open(&sheets::limits(random).bytes(), length);
+            device.open(&sheets::limits(random).bytes(), lengths);
             for _ in 0..random.between(1, 40) {
                 change_word(random, &mut device, at::SETUP);
             }
         }
         _ => {
-            device.open(&sheets::small(random).bytes(), length);
+            device.open(&sheets::small(random).bytes(), lengths);
             for _ in 0..random.between(1, 20) {
                 change_word(random, &mut device, 0);
             }
         }
     }
     if random.chance(50) {
-        make_line(random, &mut device);
+        for at in (at::SERVICES..at::END).step_by(2) {
+            device.put_services(at, services(random));
+        }
     }
-    if random.chance(80) {
-        // Let the device count as opened, and its memory as the one that is lent.
+    let opened = random.chance(80);
+    if opened {
         device.bytes[at::SETUP..at::SETUP + 4].copy_from_slice(&1u32.to_le_bytes());
-        device.put_word(at::LENGTH, length);
     }
-    if random.chance(30) {
-        device.put_word(at::STREAMING, 1);
-    }
-    if random.chance(10) {
-        // Near the last number of a run.
-        device.put_word(at::ACCEPTED, u64::from(u32::MAX) + random.below(5) as u64 - 2);
+    for (stream, length) in at::STREAMS.into_iter().zip(lengths) {
+        if random.chance(50) {
+            make_line(random, &mut device, stream);
+        }
+        if opened {
+            // Its memory counts as the one that is lent.
+            device.put_word(stream + at::LENGTH, length);
+        }
+        if random.chance(30) {
+            device.put_word(stream + at::STREAMING, 1);
+        }
+        if random.chance(10) {
+            // Near the last number of a run.
+            device.put_word(stream + at::ACCEPTED, u64::from(u32::MAX) + random.below(5) as u64 - 2);
+        }
     }
     device
 }
 
 /// A line of buffers that may be right or nearly so: more of them than there can be, some of them twice.
-fn make_line(random: &mut Random, device: &mut Device) {
+fn make_line(random: &mut Random, device: &mut Device, stream: usize) {
     let head = number(random);
-    device.put_word(at::HEAD, head);
+    device.put_word(stream + at::HEAD, head);
     for count in [at::GRANTED, at::LINED, at::HOLDING] {
-        device.put_word(count, random.below(36) as u64);
+        device.put_word(stream + count, random.below(36) as u64);
     }
     for place in 0..32 {
-        device.put_word(at::INDEX + 8 * place, random.below(34) as u64);
+        device.put_word(stream + at::INDEX + 8 * place, random.below(34) as u64);
     }
 }
 
@@ -179,17 +206,31 @@ fn number(random: &mut Random) -> u64 {
     }
 }
 
-/// One word of the device becomes another: one of the twelve numbers of the stream, any word of the stream, or one of the
-/// words of 32 bits between `from` and the stream.
+/// A set for a line.
+fn services(random: &mut Random) -> u16 {
+    if random.chance(15) {
+        random.word() as u16
+    } else {
+        random.pick(&NUMBERS_16)
+    }
+}
+
+/// One word of the device becomes another: one of the twelve numbers of a stream, any word of a stream, a set of services, or
+/// one of the words of 32 bits between `from` and the streams.
 fn change_word(random: &mut Random, device: &mut Device, from: usize) {
-    match random.weighted(&[4, 3, 3]) {
+    let stream = random.pick(&at::STREAMS);
+    match random.weighted(&[4, 3, 1, 3]) {
         0 => {
-            let at = at::VIDEO + 8 * random.below(12);
+            let at = stream + 8 * random.below(12);
             device.put_word(at, number(random));
         }
         1 => {
-            let at = at::VIDEO + 8 * random.below((at::END - at::VIDEO) / 8);
+            let at = stream + 8 * random.below(at::STREAM / 8);
             device.put_word(at, number(random));
+        }
+        2 => {
+            let at = at::SERVICES + 2 * random.below((at::END - at::SERVICES) / 2);
+            device.put_services(at, services(random));
         }
         _ => {
             let at = from + 4 * random.below((at::VIDEO - from) / 4);
@@ -228,39 +269,56 @@ pub fn request(device: &mut Device, word: u32, argument: &[u8]) -> Result<u32, S
     Ok(number)
 }
 
+/// A frame that a device of any content would take, if there is one that is not too long: it has any image size, and any
+/// services.
+fn fitting(device: &mut Device, kind: u32, random: &mut Random) -> Option<Frame> {
+    let mut format = vec![0; size(G_FMT)];
+    format[0] = kind as u8;
+    device.request(G_FMT, &mut format);
+    match kind {
+        PICTURES => {
+            let size = word(&format, 24) as usize;
+            (size <= 100_000).then(|| Frame::plain(size, random.draw()))
+        }
+        CAPTIONS => {
+            let sets =
+                std::array::from_fn(|field| std::array::from_fn(|line| half(&format, 6 + 48 * field + 2 * line)));
+            Some(captions::whole(random, &Lines(sets)))
+        }
+        _ => None,
+    }
+}
+
 /// An arrival, with what holds of every arrival.
 pub fn arrival(
     device: &mut Device,
-    memory: &mut Guarded,
+    memories: &mut Memories,
     one: &Arrival,
     random: &mut Random,
 ) -> Result<Arrived, String> {
-    let held = memory.body().to_vec();
-    // A device of any content has any image size: ask it for one that it would take.
-    let mut format = [0; 204];
-    format[0] = 1;
-    device.request(model::words::G_FMT, &mut format);
+    let held = memories.each_ref().map(|memory| memory.body().to_vec());
+    let wanted = if random.chance(70) { fitting(device, one.kind, random) } else { None };
     let before = kept(device);
-    let size = u32::from_le_bytes([format[24], format[25], format[26], format[27]]) as usize;
-    let length = if size <= 100_000 && random.chance(70) { size } else { one.frame_length };
+    let told = wanted.as_ref().unwrap_or(&one.frame);
     let mut frame = Guarded::default();
-    frame.reset(length, 3);
-    random::fill(one.frame_seed, frame.body_mut());
+    frame.reset(told.length, 3);
+    told.write(frame.body_mut());
     let sent = frame.body().to_vec();
-    let arrived = match one.lent {
-        Lent::Memory => device.arrival(memory.body_mut(), frame.body(), one.seconds, one.microseconds),
-        Lent::Other(length) => {
-            let mut other = Guarded::default();
-            other.reset(length, 5);
-            let arrived = device.arrival(other.body_mut(), frame.body(), one.seconds, one.microseconds);
-            check(other.intact(), "a byte outside the lent memory changed")?;
-            arrived
-        }
+    let mut other = Guarded::default();
+    other.reset(if let Lent::Other(length) = one.lent { length } else { 0 }, 5);
+    let lent = match one.memory() {
+        Some(place) => &mut memories[place],
+        None => &mut other,
     };
+    let arrived = device.arrival(one.kind, lent.body_mut(), frame.body(), one.seconds, one.microseconds);
     check(arrived.answer <= STORED, "an answer that is none")?;
-    check(memory.intact() && frame.intact(), "a byte outside what was lent changed")?;
+    let intact = memories.iter().chain([&frame, &other]).all(Guarded::intact);
+    check(intact, "a byte outside what was lent changed")?;
     check(frame.body() == sent, "the frame changed")?;
-    check(arrived.answer == STORED || memory.body() == held, "memory changed without a stored frame")?;
+    for (place, (memory, held)) in memories.iter().zip(&held).enumerate() {
+        let written = arrived.answer == STORED && one.memory() == Some(place);
+        check(written || memory.body() == held, "memory changed without a stored frame")?;
+    }
     if arrived.answer == REFUSED {
         check(arrived.number != 0 && NUMBERS.contains(&arrived.number), "a refusal without its number")?;
         check(kept(device) == before, "a refusal changed the device")?;

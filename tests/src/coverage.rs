@@ -1,7 +1,9 @@
-//! How often each call gave each number, and which answers and verdicts were seen.
+//! How often each call gave each number, and which answers and verdicts were seen, for both streams apart.
 
-use crate::model::words::ALL;
-use crate::recorder::Arrived;
+use crate::judge::{Judged, JUDGED};
+use crate::model::bytes::word;
+use crate::model::words::{type_at, ALL};
+use crate::recorder::{Arrived, CAPTIONS, PICTURES, STREAMS};
 use std::fmt;
 
 /// The numbers that can be given back. 75 needs 2^32 accepted arrivals in one run, which is out of reach here.
@@ -9,26 +11,30 @@ pub const NUMBERS: [u32; 8] = [0, 11, 14, 16, 22, 25, 34, 75];
 
 const ANSWERS: [&str; 5] = ["refused", "ignored", "damaged", "dropped", "stored"];
 const VERDICTS: [&str; 4] = ["RUNNING", "BLANK", "GAPS", "COMPLETE"];
+const NAMES: [&str; 2] = ["pictures", "captions"];
 
-/// The numbers that each known call can give back, in the order of the table of words.
-const EXPECTED: [&[u32]; 17] = [
-    &[0, 14, 22],         // QUERYCAP
-    &[0, 14, 22],         // ENUM_FMT
-    &[0, 14, 22],         // G_FMT
-    &[0, 14, 16, 22],     // S_FMT
-    &[0, 14, 22],         // TRY_FMT
-    &[0, 14, 16, 22],     // REQBUFS
-    &[0, 14, 22],         // QUERYBUF
-    &[0, 14, 22],         // QBUF
-    &[0, 11, 14, 22],     // DQBUF
-    &[0, 14, 22],         // STREAMON
-    &[0, 14, 22],         // STREAMOFF
-    &[0, 14, 22],         // G_CTRL
-    &[0, 14, 16, 22, 34], // S_CTRL
-    &[0, 14, 22],         // QUERYCTRL
-    &[0, 14, 22],         // CROPCAP
-    &[0, 14, 22],         // G_CROP
-    &[0, 14, 22],         // S_CROP
+/// The numbers that a call can give back with type 1, or with no type in its argument, and with type 6, in the order of
+/// the table of words. Any other type is refused.
+type Expected = (&'static [u32], &'static [u32]);
+const EXPECTED: [Expected; 18] = [
+    (&[0, 14, 22], &[]),                  // QUERYCAP
+    (&[0, 14, 22], &[14, 22]),            // ENUM_FMT
+    (&[0, 14, 22], &[0, 14, 22]),         // G_FMT
+    (&[0, 14, 16, 22], &[0, 14, 16, 22]), // S_FMT
+    (&[0, 14, 22], &[0, 14, 22]),         // TRY_FMT
+    (&[0, 14, 16, 22], &[0, 14, 16, 22]), // REQBUFS
+    (&[0, 14, 22], &[0, 14, 22]),         // QUERYBUF
+    (&[0, 14, 22], &[0, 14, 22]),         // QBUF
+    (&[0, 11, 14, 22], &[0, 11, 14, 22]), // DQBUF
+    (&[0, 14, 22], &[0, 14, 22]),         // STREAMON
+    (&[0, 14, 22], &[0, 14, 22]),         // STREAMOFF
+    (&[0, 14, 22], &[]),                  // G_CTRL
+    (&[0, 14, 16, 22, 34], &[]),          // S_CTRL
+    (&[0, 14, 22], &[]),                  // QUERYCTRL
+    (&[0, 14, 22], &[14, 22]),            // CROPCAP
+    (&[0, 14, 22], &[14, 22]),            // G_CROP
+    (&[0, 14, 22], &[14, 22]),            // S_CROP
+    (&[14, 22], &[0, 14, 22]),            // G_SLICED_VBI_CAP
 ];
 
 /// Where a DQBUF finds the stream that has nothing wrong in its argument, and the numbers that it can give there.
@@ -43,21 +49,46 @@ const DEQUEUES: [(&str, &[u32]); 3] = [("DQBUF in run", &[0, 11]), ("- stopped",
 
 type Row = [u64; NUMBERS.len()];
 
+/// What was seen of one stream.
 #[derive(Default, Clone)]
-pub struct Coverage {
-    pub calls: u64,
-    pub sessions: u64,
-    requests: [Row; 17],
+struct Seen {
+    requests: [Row; 18],
     dequeues: [Row; 3],
-    unknown: Row,
-    openings: Row,
-    planes: Row,
     /// Arrivals by the number given back, and by answer.
     arrivals: Row,
     answers: [u64; 5],
     verdicts: [u64; 4],
+}
+
+#[derive(Default, Clone)]
+pub struct Coverage {
+    pub calls: u64,
+    pub sessions: u64,
+    /// Pictures, with the calls that name no type, and captions.
+    streams: [Seen; 2],
+    /// Requests and arrivals of a type that names no stream, or whose argument ends before the type.
+    other_requests: Row,
+    other_arrivals: Row,
+    unknown: Row,
+    openings: Row,
+    planes: Row,
+    /// What the caption frames of a run were like.
+    judged: [u64; JUDGED.len()],
     /// Numbers, answers and verdicts that no rule knows.
     strange: u64,
+}
+
+/// The place of the stream that a type names.
+fn place(kind: u32) -> Option<usize> {
+    STREAMS.iter().position(|known| *known == kind)
+}
+
+/// The type that a request names: 1 for a word that has none in its argument, nothing if the argument ends before it.
+fn named(request: u32, argument: &[u8]) -> Option<u32> {
+    match type_at(request) {
+        None => Some(PICTURES),
+        Some(at) => (argument.len() >= at + 4).then(|| word(argument, at)),
+    }
 }
 
 impl Coverage {
@@ -72,25 +103,41 @@ impl Coverage {
         Coverage::count(&mut self.openings, &mut self.strange, number);
     }
 
-    pub fn request(&mut self, word: u32, number: u32) {
-        let row = match ALL.iter().position(|(known, _)| *known == word) {
-            Some(place) => &mut self.requests[place],
-            None => &mut self.unknown,
+    /// A request with its argument as it was asked, and the number given back.
+    pub fn request(&mut self, word: u32, argument: &[u8], number: u32) {
+        let known = ALL.iter().position(|(known, _)| *known == word);
+        let row = match (known, named(word, argument).and_then(place)) {
+            (Some(call), Some(stream)) => &mut self.streams[stream].requests[call],
+            (Some(_), None) => &mut self.other_requests,
+            (None, _) => &mut self.unknown,
         };
         Coverage::count(row, &mut self.strange, number);
     }
 
     /// A DQBUF with nothing wrong in its argument.
-    pub fn dequeue(&mut self, stream: Stream, number: u32) {
-        Coverage::count(&mut self.dequeues[stream as usize], &mut self.strange, number);
+    pub fn dequeue(&mut self, kind: u32, stream: Stream, number: u32) {
+        if let Some(place) = place(kind) {
+            Coverage::count(&mut self.streams[place].dequeues[stream as usize], &mut self.strange, number);
+        }
     }
 
-    pub fn arrival(&mut self, arrived: Arrived) {
+    pub fn arrival(&mut self, kind: u32, arrived: Arrived) {
         let number = if arrived.answer == 0 { arrived.number } else { 0 };
-        Coverage::count(&mut self.arrivals, &mut self.strange, number);
-        match self.answers.get_mut(arrived.answer as usize) {
+        let Some(place) = place(kind) else {
+            return Coverage::count(&mut self.other_arrivals, &mut self.strange, number);
+        };
+        let seen = &mut self.streams[place];
+        Coverage::count(&mut seen.arrivals, &mut self.strange, number);
+        match seen.answers.get_mut(arrived.answer as usize) {
             Some(count) => *count += 1,
             None => self.strange += 1,
+        }
+    }
+
+    /// A caption frame that arrived in a run.
+    pub fn judged(&mut self, judged: Judged) {
+        for ((known, _), count) in JUDGED.iter().zip(&mut self.judged) {
+            *count += u64::from(*known == judged);
         }
     }
 
@@ -98,8 +145,9 @@ impl Coverage {
         Coverage::count(&mut self.planes, &mut self.strange, number);
     }
 
-    pub fn verdict(&mut self, verdict: u32) {
-        match self.verdicts.get_mut(verdict as usize) {
+    pub fn verdict(&mut self, kind: u32, verdict: u32) {
+        let counts = place(kind).map(|place| &mut self.streams[place].verdicts);
+        match counts.and_then(|counts| counts.get_mut(verdict as usize)) {
             Some(count) => *count += 1,
             None => self.strange += 1,
         }
@@ -107,19 +155,58 @@ impl Coverage {
 
     /// The numbers given back to requests and arrivals, and the answers to arrivals, on one line.
     pub fn in_short(&self) -> String {
-        let rows = || self.requests.iter().chain([&self.unknown, &self.arrivals]);
+        let of_streams = self.streams.iter().flat_map(|seen| seen.requests.iter().chain([&seen.arrivals]));
+        let rows: Vec<&Row> = of_streams.chain([&self.unknown, &self.other_requests, &self.other_arrivals]).collect();
         let numbers = NUMBERS.iter().enumerate();
-        let numbers = numbers.map(|(column, number)| (number.to_string(), rows().map(|row| row[column]).sum()));
-        let answers = ANSWERS.iter().map(|name| name.to_string()).zip(self.answers);
+        let numbers = numbers.map(|(column, number)| (number.to_string(), rows.iter().map(|row| row[column]).sum()));
+        let sums = std::array::from_fn::<u64, 5, _>(|i| self.streams.iter().map(|seen| seen.answers[i]).sum());
+        let answers = ANSWERS.iter().map(|name| name.to_string()).zip(sums);
         let texts: Vec<String> =
             numbers.chain(answers).map(|(name, count): (_, u64)| format!("{name}: {count}")).collect();
         texts.join(", ")
     }
 
+    /// All rows with their names, and the numbers that each may have.
+    fn rows(&self) -> Vec<(String, &Row, &'static [u32])> {
+        let mut rows = Vec::new();
+        for ((seen, kind), stream) in self.streams.iter().zip(STREAMS).zip(NAMES) {
+            for (call, ((word, name), (pictures, captions))) in ALL.iter().zip(EXPECTED).enumerate() {
+                let expected = if kind == PICTURES { pictures } else { captions };
+                let name = if kind == CAPTIONS { format!("{name} 6") } else { name.to_string() };
+                // A word that names no type is no call of the second stream.
+                if kind == PICTURES || type_at(*word).is_some() {
+                    rows.push((name, &seen.requests[call], expected));
+                }
+            }
+            for (row, (name, expected)) in seen.dequeues.iter().zip(DEQUEUES) {
+                rows.push((name.to_string(), row, expected));
+            }
+            rows.push((format!("{stream} arrive"), &seen.arrivals, &[0, 14, 22]));
+        }
+        rows.push(("other types".into(), &self.other_requests, &[14, 22]));
+        rows.push(("- arrive".into(), &self.other_arrivals, &[22]));
+        rows.push(("unknown word".into(), &self.unknown, &[22, 25]));
+        rows.push(("opening".into(), &self.openings, &[0, 22]));
+        rows.push(("plane".into(), &self.planes, &[0, 22]));
+        rows
+    }
+
+    /// The counts that are no numbers given back, by stream and name.
+    fn lists(&self) -> Vec<(String, Vec<(&'static str, u64)>)> {
+        let mut lists = Vec::new();
+        for (seen, stream) in self.streams.iter().zip(NAMES) {
+            lists.push((format!("{stream}, arrivals"), ANSWERS.into_iter().zip(seen.answers).collect()));
+            lists.push((format!("{stream}, verdicts"), VERDICTS.into_iter().zip(seen.verdicts).collect()));
+        }
+        let judged = JUDGED.iter().map(|(_, name)| *name).zip(self.judged).collect();
+        lists.push(("captions, frames of a run".into(), judged));
+        lists
+    }
+
     /// What should have been seen and was not.
     pub fn missing(&self) -> Vec<String> {
         let mut missing = Vec::new();
-        let mut look = |name: &str, row: &Row, expected: &[u32]| {
+        for (name, row, expected) in self.rows() {
             for (number, count) in NUMBERS.iter().zip(row) {
                 if expected.contains(number) && *count == 0 {
                     missing.push(format!("{name} never gave {number}"));
@@ -128,20 +215,10 @@ impl Coverage {
                     missing.push(format!("{name} gave {number}, which no rule allows"));
                 }
             }
-        };
-        for ((row, expected), (_, name)) in self.requests.iter().zip(EXPECTED).zip(ALL) {
-            look(name, row, expected);
         }
-        for (row, (name, expected)) in self.dequeues.iter().zip(DEQUEUES) {
-            look(name, row, expected);
-        }
-        look("an unknown word", &self.unknown, &[22, 25]);
-        look("an opening", &self.openings, &[0, 22]);
-        look("a plane", &self.planes, &[0, 22]);
-        look("an arrival", &self.arrivals, &[0, 14, 22]);
-        for (name, count) in ANSWERS.iter().zip(self.answers).chain(VERDICTS.iter().zip(self.verdicts)) {
-            if count == 0 {
-                missing.push(format!("{name} was never seen"));
+        for (list, counts) in self.lists() {
+            for (name, _) in counts.into_iter().filter(|(_, count)| *count == 0) {
+                missing.push(format!("{list}: {name} was never seen"));
             }
         }
         if self.strange > 0 {
@@ -153,33 +230,21 @@ impl Coverage {
 
 impl fmt::Display for Coverage {
     fn fmt(&self, f: &mut fmt::Formatter) -> fmt::Result {
-        write!(f, "{:<13}", "")?;
+        write!(f, "{:<18}", "")?;
         for number in NUMBERS {
             write!(f, "{number:>9}")?;
         }
-        writeln!(f)?;
-        let requests = ALL.iter().map(|(_, name)| *name).zip(&self.requests);
-        let others = [
-            ("unknown word", &self.unknown),
-            ("opening", &self.openings),
-            ("arrival", &self.arrivals),
-            ("plane", &self.planes),
-        ];
-        let dequeues = DEQUEUES.iter().map(|(name, _)| *name).zip(&self.dequeues);
-        for (name, row) in requests.chain(dequeues).chain(others) {
-            write!(f, "{name:<13}")?;
+        for (name, row, _) in self.rows() {
+            write!(f, "\n{name:<18}")?;
             for count in row {
                 write!(f, "{count:>9}")?;
             }
-            writeln!(f)?;
         }
-        write!(f, "arrivals:")?;
-        for (name, count) in ANSWERS.iter().zip(self.answers) {
-            write!(f, "  {name} {count}")?;
-        }
-        write!(f, "\nverdicts:")?;
-        for (name, count) in VERDICTS.iter().zip(self.verdicts) {
-            write!(f, "  {name} {count}")?;
+        for (list, counts) in self.lists() {
+            write!(f, "\n{list}:")?;
+            for (name, count) in counts {
+                write!(f, "  {name} {count}")?;
+            }
         }
         Ok(())
     }

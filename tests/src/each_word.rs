@@ -1,34 +1,40 @@
-//! A device in the middle of a run whose words hold what no history leads to: each word by itself, and the numbers of the
-//! line together. On each such device every call is made once.
+//! A device in the middle of a run of each stream whose words hold what no history leads to: each word by itself, and the
+//! numbers of a line together. On each such device every call is made once.
 
-use crate::anything::{arrival, check, plane, request, NUMBERS_32, NUMBERS_64};
+use crate::anything::{arrival, check, plane, request, verdicts, Memories, NUMBERS_16, NUMBERS_32, NUMBERS_64};
 use crate::ask::done;
 use crate::coverage::Coverage;
 use crate::draft::Draft;
 use crate::ffi::{at, Device};
-use crate::guarded::Guarded;
 use crate::model::bytes::put;
 use crate::model::format::GREY;
 use crate::model::words::*;
 use crate::random::Random;
-use crate::recorder::{Recorder, COMPLETE, STORED};
-use crate::session::{Arrival, Lent, Step};
+use crate::recorder::{Recorder, CAPTIONS, PICTURES, STORED, STREAMS};
+use crate::session::{Arrival, Frame, Lent, Step};
 use crate::show;
 
 const BUFFERS: usize = 8;
-const FRAME: [u8; 4] = [7; 4];
+const SMALLEST: usize = 4;
+const LOAD: [u32; 3] = [0x1000, 0, 21];
 const CONTRAST: u32 = 0x0098_0901;
 
-/// A device and its memory.
+/// A frame that the stream of this place takes: the smallest picture, or the load line.
+fn frame(place: usize) -> Frame {
+    [Frame::plain(SMALLEST, 1), Frame::records(vec![LOAD], 1)][place].clone()
+}
+
+/// A device and its memories.
 struct Bench {
     device: Device,
-    memory: Guarded,
+    memories: Memories,
     random: Random,
     coverage: Coverage,
 }
 
 impl Bench {
-    /// A run is on. The line begins at place 30 and goes on at place 0: buffers 3 and 4 hold a frame, 5 and 6 wait.
+    /// Of each stream a run is on. Its line begins at place 30 and goes on at place 0: buffers 3 and 4 hold a frame, 5 and 6
+    /// wait.
     fn new() -> Bench {
         let sheet = Draft {
             formats: vec![(GREY, [0; 32])],
@@ -37,64 +43,81 @@ impl Bench {
             alignment: 2,
             ..Draft::bench()
         };
-        let mut memory = Guarded::default();
-        memory.reset(BUFFERS * 4096, 0);
+        let mut memories = Memories::default();
+        memories.iter_mut().for_each(|memory| memory.reset(BUFFERS * 4096, 0));
         let mut device = Device::zeroed();
-        assert_eq!(device.open(&sheet.bytes(), memory.body().len() as u64), 0);
-        done(&mut device, S_FMT, &[(0, 1), (4, 2), (8, 2), (12, GREY)]);
-        done(&mut device, REQBUFS, &[(0, BUFFERS as u32), (4, 1), (8, 1)]);
-        done(&mut device, STREAMON, &[(0, 1)]);
-        let mut bench = Bench { device, memory, random: Random::new(1), coverage: Coverage::default() };
-        for _ in 0..30 {
-            bench.queue(0);
-            bench.store();
-            done(&mut bench.device, DQBUF, &[(4, 1), (48, 1)]);
+        assert_eq!(device.open(&sheet.bytes(), [BUFFERS as u64 * 4096; 2]), 0);
+        done(&mut device, S_FMT, &[(0, PICTURES), (4, 2), (8, 2), (12, GREY)]);
+        done(&mut device, S_FMT, &[(0, CAPTIONS), (4, LOAD[0])]);
+        let mut bench = Bench { device, memories, random: Random::new(1), coverage: Coverage::default() };
+        for place in [0, 1] {
+            bench.begin(place);
         }
-        for index in [3, 4, 5, 6] {
-            bench.queue(index);
-        }
-        bench.store();
-        bench.store();
-        let line = [at::HEAD, at::HOLDING, at::LINED, at::GRANTED].map(|at| bench.device.word(at));
-        assert_eq!((line[0] % 32, line[1], line[2], line[3]), (30, 2, 4, 8));
         bench
     }
 
-    fn queue(&mut self, index: u32) {
-        done(&mut self.device, QBUF, &[(0, index), (4, 1), (48, 1)]);
+    /// The run of the stream of this place, and its line.
+    fn begin(&mut self, place: usize) {
+        let kind = STREAMS[place];
+        done(&mut self.device, REQBUFS, &[(0, BUFFERS as u32), (4, kind), (8, 1)]);
+        done(&mut self.device, STREAMON, &[(0, kind)]);
+        for _ in 0..30 {
+            self.queue(kind, 0);
+            self.store(place);
+            done(&mut self.device, DQBUF, &[(4, kind), (48, 1)]);
+        }
+        for index in [3, 4, 5, 6] {
+            self.queue(kind, index);
+        }
+        self.store(place);
+        self.store(place);
+        let line = LINE.map(|at| self.device.word(at::STREAMS[place] + at));
+        assert_eq!((line[0] % 32, line[1], line[2], line[3]), (30, 2, 4, 8));
     }
 
-    fn store(&mut self) {
-        assert_eq!(self.device.arrival(self.memory.body_mut(), &FRAME, 1, 2).answer, STORED);
+    fn queue(&mut self, kind: u32, index: u32) {
+        done(&mut self.device, QBUF, &[(0, index), (4, kind), (48, 1)]);
+    }
+
+    fn store(&mut self, place: usize) {
+        let memory = self.memories[place].body_mut();
+        assert_eq!(self.device.arrival(STREAMS[place], memory, &frame(place).bytes(), 1, 2).answer, STORED);
     }
 
     /// Every call, each on a copy of this device.
     fn every_call(&mut self, device: &Device) -> Result<(), String> {
         for (word, argument) in requests() {
-            let number = request(&mut device.clone(), word, &argument)
-                .map_err(|fault| format!("{}: {fault}", show::step(&Step::Request { word, argument })))?;
-            self.coverage.request(word, number);
+            let step = || show::step(&Step::Request { word, argument: argument.clone() });
+            let number =
+                request(&mut device.clone(), word, &argument).map_err(|fault| format!("{}: {fault}", step()))?;
+            self.coverage.request(word, &argument, number);
         }
-        for (frame_length, lent) in [(4, Lent::Memory), (3, Lent::Memory), (4, Lent::Other(100))] {
-            let one = Arrival { lent, frame_length, frame_seed: 1, seconds: -1, microseconds: 999_999 };
-            let arrived = arrival(&mut device.clone(), &mut self.memory, &one, &mut self.random)
-                .map_err(|fault| format!("arrival of {frame_length} bytes: {fault}"))?;
-            self.coverage.arrival(arrived);
+        for (place, kind) in [(0, PICTURES), (1, CAPTIONS), (0, 2)] {
+            let whole = frame(place);
+            let damaged = Frame { length: whole.length - 1, ..whole.clone() };
+            for (frame, lent) in [(&whole, Lent::Own), (&damaged, Lent::Own), (&whole, Lent::Other(100))] {
+                let one = Arrival { kind, lent, frame: frame.clone(), seconds: -1, microseconds: 999_999 };
+                let arrived = arrival(&mut device.clone(), &mut self.memories, &one, &mut self.random)
+                    .map_err(|fault| format!("arrival of {} bytes of type {kind}: {fault}", frame.length))?;
+                self.coverage.arrival(kind, arrived);
+            }
         }
         for index in 0..4 {
-            plane(device, FRAME.len(), index)?;
+            plane(device, SMALLEST, index)?;
         }
-        check(device.verdict() <= COMPLETE, "a verdict that is none")
+        verdicts(device)
     }
 
-    /// A buffer goes through the line of this device, or is refused.
+    /// A buffer goes through each line of this device, or is refused.
     fn round(&mut self, mut device: Device) -> Result<(), String> {
-        let argument = filled(QBUF, &[(0, 1), (4, 1), (48, 1)]);
-        let one = Arrival { lent: Lent::Memory, frame_length: 4, frame_seed: 1, seconds: 5, microseconds: 6 };
-        for _ in 0..3 {
-            request(&mut device, QBUF, &argument)?;
-            arrival(&mut device, &mut self.memory, &one, &mut self.random)?;
-            request(&mut device, DQBUF, &argument)?;
+        for (place, kind) in STREAMS.into_iter().enumerate() {
+            let argument = filled(QBUF, &[(0, 1), (4, kind), (48, 1)]);
+            let one = Arrival { kind, lent: Lent::Own, frame: frame(place), seconds: 5, microseconds: 6 };
+            for _ in 0..3 {
+                request(&mut device, QBUF, &argument)?;
+                arrival(&mut device, &mut self.memories, &one, &mut self.random)?;
+                request(&mut device, DQBUF, &argument)?;
+            }
         }
         Ok(())
     }
@@ -106,11 +129,19 @@ impl Bench {
             let same = left.clone().request(word, &mut one) == right.clone().request(word, &mut two) && one == two;
             check(same, &format!("{}: other answers", show::step(&Step::Request { word, argument })))?;
         }
-        let one = left.clone().arrival(self.memory.body_mut(), &FRAME, 1, 2);
-        let two = right.clone().arrival(self.memory.body_mut(), &FRAME, 1, 2);
-        check(one == two && left.verdict() == right.verdict(), "an arrival or the verdict: other answers")
+        for (place, kind) in STREAMS.into_iter().enumerate() {
+            let (memory, frame) = (self.memories[place].body_mut(), frame(place).bytes());
+            let one = left.clone().arrival(kind, memory, &frame, 1, 2);
+            let two = right.clone().arrival(kind, memory, &frame, 1, 2);
+            let same = one == two && left.verdict(kind) == right.verdict(kind);
+            check(same, &format!("an arrival or the verdict of type {kind}: other answers"))?;
+        }
+        Ok(())
     }
 }
+
+/// The numbers of a line.
+const LINE: [usize; 4] = [at::HEAD, at::HOLDING, at::LINED, at::GRANTED];
 
 fn filled(word: u32, fields: &[(usize, u32)]) -> Vec<u8> {
     let mut argument = vec![0; size(word)];
@@ -120,62 +151,69 @@ fn filled(word: u32, fields: &[(usize, u32)]) -> Vec<u8> {
     argument
 }
 
-/// Each request with an argument that a device can accept; those about one buffer for several.
+/// Each request with an argument that a device can accept, of each stream; those about one buffer for several.
 fn requests() -> Vec<(u32, Vec<u8>)> {
-    let fixed: [(u32, &[(usize, u32)]); 16] = [
+    let fixed: [(u32, &[(usize, u32)]); 10] = [
         (QUERYCAP, &[]),
         (ENUM_FMT, &[(4, 1)]),
-        (G_FMT, &[(0, 1)]),
         (S_FMT, &[(0, 1), (4, 2), (8, 2), (12, GREY)]),
-        (TRY_FMT, &[(0, 1), (4, 300), (8, 201)]),
-        (REQBUFS, &[(0, 8), (4, 1), (8, 1)]),
-        (REQBUFS, &[(4, 1), (8, 1)]),
-        (DQBUF, &[(4, 1), (48, 1)]),
-        (STREAMON, &[(0, 1)]),
-        (STREAMOFF, &[(0, 1)]),
         (G_CTRL, &[(0, CONTRAST)]),
         (S_CTRL, &[(0, CONTRAST), (4, 7)]),
         (QUERYCTRL, &[(0, CONTRAST)]),
         (CROPCAP, &[(0, 1)]),
         (G_CROP, &[(0, 1)]),
         (S_CROP, &[(0, 1), (4, 100), (8, 20), (12, 608), (16, 300)]),
+        (G_SLICED_VBI_CAP, &[(100, 6)]),
+    ];
+    let fixed = fixed.iter().map(|(word, fields)| (*word, filled(*word, fields)));
+    fixed.chain(STREAMS.into_iter().flat_map(of_stream)).collect()
+}
+
+/// The requests about one stream.
+fn of_stream(kind: u32) -> Vec<(u32, Vec<u8>)> {
+    let fixed: [(u32, &[(usize, u32)]); 8] = [
+        (G_FMT, &[(0, kind)]),
+        (S_FMT, &[(0, kind), (4, 0x5401), (8, 2)]),
+        (TRY_FMT, &[(0, kind), (4, 300), (8, 201)]),
+        (REQBUFS, &[(0, 8), (4, kind), (8, 1)]),
+        (REQBUFS, &[(4, kind), (8, 1)]),
+        (DQBUF, &[(4, kind), (48, 1)]),
+        (STREAMON, &[(0, kind)]),
+        (STREAMOFF, &[(0, kind)]),
     ];
     let fixed = fixed.iter().map(|(word, fields)| (*word, filled(*word, fields)));
     let of_buffers = [0, 3, 6, 7, 31, 32]
         .into_iter()
-        .flat_map(|index| [QUERYBUF, QBUF].map(|word| (word, filled(word, &[(0, index), (4, 1), (48, 1)]))));
+        .flat_map(|index| [QUERYBUF, QBUF].map(|word| (word, filled(word, &[(0, index), (4, kind), (48, 1)]))));
     fixed.chain(of_buffers).collect()
 }
 
-/// Each word of the setup, the values and the stream holds each of many numbers, one at a time.
+/// Each word of the setup, the values and the streams, and each set of services, holds each of many numbers, one at a time.
 pub fn each_word() -> Result<Coverage, String> {
     let mut bench = Bench::new();
-    let halves = (at::SETUP..at::VIDEO).step_by(4).flat_map(|at| NUMBERS_32.map(|word| (at, word)));
-    for (at, word) in halves {
+    let words = (at::SETUP..at::VIDEO).step_by(4).flat_map(|at| NUMBERS_32.map(|word| (at, word.into(), 4)));
+    let words = words.chain((at::VIDEO..at::SERVICES).step_by(8).flat_map(|at| NUMBERS_64.map(|word| (at, word, 8))));
+    let words =
+        words.chain((at::SERVICES..at::END).step_by(2).flat_map(|at| NUMBERS_16.map(|word| (at, word.into(), 2))));
+    for (at, word, bytes) in words {
         let mut device = bench.device.clone();
-        device.bytes[at..at + 4].copy_from_slice(&word.to_le_bytes());
-        bench.every_call(&device).map_err(|fault| format!("{word:#x} at {at}: {fault}"))?;
-    }
-    let words = (at::VIDEO..at::END).step_by(8).flat_map(|at| NUMBERS_64.map(|word| (at, word)));
-    for (at, word) in words {
-        let mut device = bench.device.clone();
-        device.put_word(at, word);
+        device.bytes[at..at + bytes].copy_from_slice(&u64::to_le_bytes(word)[..bytes]);
         let tried = bench.every_call(&device).and_then(|()| bench.round(device));
         tried.map_err(|fault| format!("{word:#x} at {at}: {fault}"))?;
     }
     Ok(bench.coverage)
 }
 
-/// Head, holding, lined and granted hold many numbers together. A line that is too long counts as 32, one that holds more
-/// than it has as all of it, and where it begins counts modulo 32.
+/// Head, holding, lined and granted of a stream hold many numbers together. A line that is too long counts as 32, one that
+/// holds more than it has as all of it, and where it begins counts modulo 32.
 pub fn each_line() -> Result<Coverage, String> {
     let mut bench = Bench::new();
     let heads = [0, 1, 30, 31, 32, 33, (1 << 32) - 1, 1 << 32, u64::MAX - 1, u64::MAX];
     let counts = [0, 1, 4, 31, 32, 33, (1 << 32) - 1, 1 << 32, (1 << 32) + 2, u64::MAX];
-    for head in heads {
+    for (stream, head) in at::STREAMS.into_iter().flat_map(|stream| heads.map(|head| (stream, head))) {
         for (holding, lined) in counts.iter().flat_map(|holding| counts.map(|lined| (*holding, lined))) {
             for granted in [0, 8, 32, u64::MAX] {
-                one_line(&mut bench, [head, holding, lined, granted])
+                one_line(&mut bench, stream, [head, holding, lined, granted])
                     .map_err(|fault| format!("head {head}, holding {holding}, lined {lined}, {granted}: {fault}"))?;
             }
         }
@@ -183,11 +221,11 @@ pub fn each_line() -> Result<Coverage, String> {
     Ok(bench.coverage)
 }
 
-fn one_line(bench: &mut Bench, [head, holding, lined, granted]: [u64; 4]) -> Result<(), String> {
+fn one_line(bench: &mut Bench, stream: usize, [head, holding, lined, granted]: [u64; 4]) -> Result<(), String> {
     let with = |base: &Device, line: [u64; 4]| {
         let mut device = base.clone();
-        for (at, word) in [at::HEAD, at::HOLDING, at::LINED, at::GRANTED].into_iter().zip(line) {
-            device.put_word(at, word);
+        for (at, word) in LINE.into_iter().zip(line) {
+            device.put_word(stream + at, word);
         }
         device
     };

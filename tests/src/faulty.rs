@@ -1,9 +1,11 @@
 //! Copies of the model with one fault each. The tests show that every one of them is found.
 
-use crate::model::bytes::{put, put_signed, signed, word};
+use crate::model::buffers::Stream;
+use crate::model::bytes::{half, put, put_half, put_signed, signed, word};
 use crate::model::control::NEXT;
+use crate::model::services::{Lines, RECORD, SERVICES};
 use crate::model::words::*;
-use crate::model::{Device, Opened};
+use crate::model::{Device, LONGEST_MEMORY};
 use crate::recorder::*;
 
 #[derive(Clone, Copy, Debug, PartialEq)]
@@ -28,9 +30,25 @@ pub enum Fault {
     UnknownAnswersInvalid,
     StoppedAnswersSoon,
     StartForgetsRun,
+    CaptionLineTwice,
+    CaptionsBusyByPictures,
+    CaptionBufferToPictures,
+    VerdictOfCaptions,
+    IoSizeCountsServices,
+    CaptionUsedIsIoSize,
+    CaptionSlotOfPictures,
+    OneServiceOnLine,
+    AnyServiceOnLine,
+    ServicesNeverTakenAway,
+    TryKeepsServices,
+    StopEndsBoth,
+    OtherTypeArrives,
+    CaptionLengthUnchecked,
+    EmptyCaptionDamaged,
+    CaptionOrderAsked,
 }
 
-pub const FAULTS: [Fault; 20] = [
+pub const FAULTS: [Fault; 36] = [
     Fault::NewestOutgoingFirst,
     Fault::VerdictConstant,
     Fault::FailedDequeueCounted,
@@ -51,16 +69,45 @@ pub const FAULTS: [Fault; 20] = [
     Fault::UnknownAnswersInvalid,
     Fault::StoppedAnswersSoon,
     Fault::StartForgetsRun,
+    Fault::CaptionLineTwice,
+    Fault::CaptionsBusyByPictures,
+    Fault::CaptionBufferToPictures,
+    Fault::VerdictOfCaptions,
+    Fault::IoSizeCountsServices,
+    Fault::CaptionUsedIsIoSize,
+    Fault::CaptionSlotOfPictures,
+    Fault::OneServiceOnLine,
+    Fault::AnyServiceOnLine,
+    Fault::ServicesNeverTakenAway,
+    Fault::TryKeepsServices,
+    Fault::StopEndsBoth,
+    Fault::OtherTypeArrives,
+    Fault::CaptionLengthUnchecked,
+    Fault::EmptyCaptionDamaged,
+    Fault::CaptionOrderAsked,
 ];
 
 pub struct Faulty {
     device: Device,
     fault: Fault,
+    /// All services that were ever negotiated.
+    ever: Lines,
+}
+
+/// The type that a request names; 1 if it names none.
+fn kind_of(request: u32, argument: &[u8]) -> u32 {
+    type_at(request).map_or(PICTURES, |at| word(argument, at))
 }
 
 impl Faulty {
     pub fn new(fault: Fault) -> Faulty {
-        Faulty { device: Device::closed(), fault }
+        Faulty { device: Device::closed(), fault, ever: Lines::default() }
+    }
+
+    /// The stream of a request whose argument is as long as it has to be.
+    fn stream(&self, request: u32, argument: &[u8]) -> Option<&Stream> {
+        let opened = self.device.opened().filter(|_| argument.len() == size(request))?;
+        opened.stream(kind_of(request, argument))
     }
 
     /// What a fault changes before a request is made.
@@ -69,7 +116,8 @@ impl Faulty {
         if argument.len() != size(request) {
             return;
         }
-        let stream = &mut opened.stream;
+        let kind = kind_of(request, argument);
+        let Some(stream) = opened.stream_mut(kind) else { return };
         match (self.fault, request) {
             (Fault::NewestOutgoingFirst, DQBUF) => {
                 let mut indices: Vec<usize> = stream.outgoing.indices().collect();
@@ -78,7 +126,7 @@ impl Faulty {
                 stream.outgoing = Default::default();
                 indices.into_iter().for_each(|index| stream.outgoing.put(index));
             }
-            (Fault::TieToLargerSize, S_FMT | TRY_FMT) => {
+            (Fault::TieToLargerSize, S_FMT | TRY_FMT) if kind == PICTURES => {
                 let (wanted, sizes) = (word(argument, 4), opened.sheet.width);
                 let inside = wanted > sizes.least && wanted < sizes.greatest;
                 if inside && (wanted - sizes.least) % sizes.step * 2 == sizes.step {
@@ -89,31 +137,104 @@ impl Faulty {
                 let left = signed(argument, 4).max(0);
                 put_signed(argument, 4, left);
             }
-            (Fault::StartForgetsRun, STREAMON) if stream.streaming && word(argument, 0) == 1 => {
-                stream.run = Default::default();
+            (Fault::StartForgetsRun, STREAMON) if stream.streaming => stream.run = Default::default(),
+            (Fault::StopEndsBoth, STREAMOFF) => {
+                opened.pictures.stop();
+                opened.captions.stop();
             }
+            (Fault::CaptionBufferToPictures, QBUF) => put(argument, 4, PICTURES),
             _ => {}
         }
     }
 
-    /// What a fault changes after a request was answered.
-    fn after(&mut self, request: u32, number: u32, argument: &mut [u8]) {
+    /// What a fault changes after a request that named this type was answered.
+    fn after(&mut self, kind: u32, request: u32, number: u32, argument: &mut [u8]) {
         match (self.fault, request, number) {
             (Fault::FailedDequeueCounted, DQBUF, 11) => {
-                if let Some(opened) = self.device.opened_mut() {
-                    opened.stream.run.handed_over += 1;
+                if let Some(stream) = self.device.opened_mut().and_then(|opened| opened.stream_mut(kind)) {
+                    stream.run.handed_over += 1;
                 }
             }
             (Fault::RefusalWritesArgument, _, 22) if argument.len() > 60 => argument[60] = 0,
             (Fault::ReservedNotZero, G_FMT, 0) => argument[203] = 1,
+            (_, _, 0) if kind == CAPTIONS => self.after_captions(request, argument),
             _ => {}
         }
+    }
+
+    /// The same for an accepted request about captions.
+    fn after_captions(&mut self, request: u32, argument: &mut [u8]) {
+        let Some(opened) = self.device.opened_mut() else { return };
+        match (self.fault, request) {
+            (Fault::IoSizeCountsServices, G_FMT | S_FMT | TRY_FMT) => {
+                let services: u32 = (0..48).map(|place| half(argument, 6 + 2 * place).count_ones()).sum();
+                put(argument, 104, services * RECORD as u32);
+            }
+            (Fault::OneServiceOnLine, G_FMT | S_FMT | TRY_FMT) => {
+                for at in (6..102).step_by(2) {
+                    let set = half(argument, at);
+                    put_half(argument, at, set & set.wrapping_neg());
+                }
+            }
+            (Fault::TryKeepsServices, TRY_FMT) if opened.captions.granted == 0 => {
+                let mut lines = argument.to_vec();
+                put_half(&mut lines, 4, 0);
+                self.device.request(S_FMT, &mut lines);
+            }
+            (Fault::ServicesNeverTakenAway, S_FMT) => {
+                for (ever, set) in self.ever.0.iter_mut().flatten().zip(opened.lines.sets()) {
+                    *ever |= set;
+                }
+            }
+            (Fault::CaptionUsedIsIoSize, DQBUF) => put(argument, 8, opened.captions.frame_size),
+            (Fault::CaptionBufferToPictures, QBUF) => put(argument, 4, CAPTIONS),
+            (Fault::CaptionSlotOfPictures, QUERYBUF | QBUF | DQBUF) => {
+                let slot = opened.pictures.slot() as u32;
+                put(argument, 52, word(argument, 0).wrapping_mul(slot));
+                put(argument, 56, slot);
+            }
+            _ => {}
+        }
+    }
+
+    /// The bytes that a fault takes a caption frame for, if not for what they are.
+    fn other_frame(&self, frame: &[u8]) -> Option<Vec<u8>> {
+        let lines = self.device.opened()?.lines;
+        let place = |record: &[u8]| (word(record, 4), word(record, 8));
+        let mut records: Vec<Vec<u8>> = frame.chunks_exact(RECORD).map(<[u8]>::to_vec).collect();
+        match self.fault {
+            _ if !frame.len().is_multiple_of(RECORD) => return None,
+            Fault::EmptyCaptionDamaged if frame.is_empty() => return Some(vec![0]),
+            Fault::CaptionOrderAsked if !records.is_sorted_by_key(|record| place(record)) => return Some(vec![0]),
+            Fault::CaptionLineTwice => {
+                let mut seen = Vec::new();
+                records.retain(|record| {
+                    let is_new = !seen.contains(&place(record));
+                    seen.push(place(record));
+                    is_new
+                });
+            }
+            Fault::AnyServiceOnLine => {
+                for record in records.iter_mut().filter(|record| SERVICES.map(u32::from).contains(&word(record, 0))) {
+                    let (field, line) = place(record);
+                    let set = lines.0.get(field as usize).and_then(|lines| lines.get(line as usize));
+                    let set = u32::from(set.copied().unwrap_or(0));
+                    if set & word(record, 0) == 0 {
+                        put(record, 0, set & set.wrapping_neg());
+                    }
+                }
+            }
+            _ => return None,
+        }
+        Some(records.concat())
     }
 }
 
 impl Recorder for Faulty {
-    fn open(&mut self, sheet: &[u8], picture_length: u64) -> u32 {
-        self.device.open(sheet, picture_length)
+    fn open(&mut self, sheet: &[u8], [pictures, captions]: [u64; 2]) -> u32 {
+        self.ever = Lines::default();
+        let unchecked = self.fault == Fault::CaptionLengthUnchecked;
+        self.device.open(sheet, [pictures, if unchecked { captions.min(LONGEST_MEMORY) } else { captions }])
     }
 
     fn request(&mut self, request: u32, argument: &mut [u8]) -> u32 {
@@ -124,6 +245,7 @@ impl Recorder for Faulty {
             Fault::ClosedAnswersUnknown if closed && !known => return 25,
             Fault::UnknownAnswersInvalid if !known => return 22,
             Fault::StoppedAnswersSoon if self.stopped_with_buffers(request, argument) => return 11,
+            Fault::CaptionsBusyByPictures if self.pictures_in_the_way(request, argument) => return 16,
             _ => {}
         }
         if self.fault == Fault::StopKeepsQueues && request == STREAMOFF {
@@ -139,7 +261,10 @@ impl Recorder for Faulty {
         if number != 0 || request >> 30 == 1 {
             argument.copy_from_slice(&asked);
         }
-        self.after(request, number, argument);
+        // An argument of another length need not have a type.
+        if argument.len() == size(request) {
+            self.after(kind_of(request, &asked), request, number, argument);
+        }
         if self.fault == Fault::NextBitKept && request == QUERYCTRL && number == 0 {
             let id = word(argument, 0) | word(&asked, 0) & NEXT;
             put(argument, 0, id);
@@ -147,20 +272,31 @@ impl Recorder for Faulty {
         number
     }
 
-    fn arrival(&mut self, memory: &mut [u8], frame: &[u8], seconds: i32, microseconds: i32) -> Arrived {
+    fn arrival(&mut self, kind: u32, memory: &mut [u8], frame: &[u8], seconds: i32, microseconds: i32) -> Arrived {
         let microseconds = match self.fault {
             Fault::MillionMicrosecondsTaken if microseconds == 1_000_000 => 999_999,
             _ => microseconds,
         };
+        let kind = match self.fault {
+            Fault::OtherTypeArrives if !STREAMS.contains(&kind) => PICTURES,
+            _ => kind,
+        };
+        let other = if kind == CAPTIONS { self.other_frame(frame) } else { None };
+        let frame = other.as_deref().unwrap_or(frame);
         let before = memory.to_vec();
-        let arrived = self.device.arrival(memory, frame, seconds, microseconds);
+        let negotiated = self.negotiate_all();
+        let arrived = self.device.arrival(kind, memory, frame, seconds, microseconds);
         let Some(opened) = self.device.opened_mut() else {
             return arrived;
         };
-        let slot = opened.picture.slot() as usize;
+        opened.lines = negotiated.unwrap_or(opened.lines);
+        let Some(stream) = opened.stream_mut(kind) else {
+            return arrived;
+        };
+        let slot = stream.slot() as usize;
         let start = arrived.buffer as usize * slot;
         match (self.fault, arrived.answer) {
-            (Fault::DamagedNotNumbered, DAMAGED) => opened.stream.run.accepted -= 1,
+            (Fault::DamagedNotNumbered, DAMAGED) => stream.run.accepted -= 1,
             (Fault::OneMoreByteWritten, STORED) => {
                 if let Some(byte) = memory.get_mut(start + frame.len()) {
                     *byte ^= 1;
@@ -168,7 +304,7 @@ impl Recorder for Faulty {
             }
             (Fault::WrongSlot, STORED) => {
                 memory.copy_from_slice(&before);
-                let other = (arrived.buffer as usize + 1) % opened.stream.granted * slot;
+                let other = (arrived.buffer as usize + 1) % stream.granted * slot;
                 memory[other..other + frame.len()].copy_from_slice(frame);
             }
             (Fault::FirstFrameOnly, STORED) if arrived.number > 0 => memory.copy_from_slice(&before),
@@ -177,9 +313,10 @@ impl Recorder for Faulty {
         arrived
     }
 
-    fn verdict(&self) -> u32 {
-        match (self.fault, self.device.verdict()) {
+    fn verdict(&self, kind: u32) -> u32 {
+        match (self.fault, self.device.verdict(kind)) {
             (Fault::VerdictConstant, verdict) if verdict != RUNNING => COMPLETE,
+            (Fault::VerdictOfCaptions, _) if kind == PICTURES => self.device.verdict(CAPTIONS),
             (_, verdict) => verdict,
         }
     }
@@ -196,20 +333,31 @@ impl Recorder for Faulty {
 impl Faulty {
     /// A DQBUF with nothing wrong in its argument finds buffers and no run.
     fn stopped_with_buffers(&self, request: u32, argument: &[u8]) -> bool {
-        let well_made = || argument.len() == size(DQBUF) && word(argument, 4) == 1 && word(argument, 48) == 1;
-        let stopped = |opened: &Opened| opened.stream.granted > 0 && !opened.stream.streaming;
-        request == DQBUF && well_made() && self.device.opened().is_some_and(stopped)
+        let stopped = |stream: &Stream| stream.granted > 0 && !stream.streaming && word(argument, 48) == 1;
+        request == DQBUF && self.stream(request, argument).is_some_and(stopped)
+    }
+
+    /// A new set of services is asked for while pictures have buffers.
+    fn pictures_in_the_way(&self, request: u32, argument: &[u8]) -> bool {
+        let captions = |stream: &Stream| stream.kind == CAPTIONS;
+        let buffers = self.device.opened().is_some_and(|opened| opened.pictures.granted > 0);
+        request == S_FMT && buffers && self.stream(request, argument).is_some_and(captions)
+    }
+
+    /// For one fault, all services that ever were take the place of those that are; the latter are given back.
+    fn negotiate_all(&mut self) -> Option<Lines> {
+        let opened = self.device.opened_mut().filter(|_| self.fault == Fault::ServicesNeverTakenAway)?;
+        Some(std::mem::replace(&mut opened.lines, self.ever))
     }
 
     /// The run ends, and the queues stay as they were.
     fn stop_without_emptying(&mut self, argument: &mut [u8]) -> u32 {
-        let kept =
-            self.device.opened().map(|opened| (opened.stream.places, opened.stream.incoming, opened.stream.outgoing));
+        let kept = self.stream(STREAMOFF, argument).map(|stream| (stream.places, stream.incoming, stream.outgoing));
         let number = self.device.request(STREAMOFF, argument);
-        if let (Some((places, incoming, outgoing)), Some(opened)) = (kept, self.device.opened_mut()) {
-            opened.stream.places = places;
-            opened.stream.incoming = incoming;
-            opened.stream.outgoing = outgoing;
+        let Some((places, incoming, outgoing)) = kept else { return number };
+        let kind = kind_of(STREAMOFF, argument);
+        if let Some(stream) = self.device.opened_mut().and_then(|opened| opened.stream_mut(kind)) {
+            (stream.places, stream.incoming, stream.outgoing) = (places, incoming, outgoing);
         }
         number
     }

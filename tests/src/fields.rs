@@ -1,6 +1,8 @@
 //! The names of the fields of an argument, for reports.
 
+use crate::model::bytes::word;
 use crate::model::words::*;
+use crate::recorder::CAPTIONS;
 
 type Names = &'static [(usize, &'static str)];
 
@@ -19,6 +21,24 @@ const FORMAT: Names = &[
     (28, "colorspace"),
     (32, "priv"),
     (36, "zeros behind the format"),
+];
+const SLICED_FORMAT: Names = &[
+    (0, "type"),
+    (4, "service_set"),
+    (6, "service_lines of the first field"),
+    (54, "service_lines of the second field"),
+    (102, "padding"),
+    (104, "io_size"),
+    (108, "reserved"),
+    (116, "zeros behind the format"),
+];
+const SLICED_CAPABILITY: Names = &[
+    (0, "service_set"),
+    (2, "service_lines of the first field"),
+    (50, "service_lines of the second field"),
+    (98, "padding"),
+    (100, "type"),
+    (104, "reserved"),
 ];
 const BUFFERS: Names = &[(0, "count"), (4, "type"), (8, "memory"), (12, "reserved")];
 const BUFFER: Names = &[
@@ -64,11 +84,13 @@ const CROPPING: Names = &[
 ];
 const CROP: Names = &[(0, "type"), (4, "left"), (8, "top"), (12, "width"), (16, "height")];
 
-/// The field that the byte at this place belongs to.
-pub fn name_at(word: u32, at: usize) -> &'static str {
-    let names = match word {
+/// The field that the byte at this place belongs to, in a request with this argument.
+pub fn name_at(request: u32, argument: &[u8], at: usize) -> &'static str {
+    let is_sliced = argument.len() >= 4 && word(argument, 0) == CAPTIONS;
+    let names = match request {
         QUERYCAP => CAPABILITY,
         ENUM_FMT => DESCRIPTION,
+        G_FMT | S_FMT | TRY_FMT if is_sliced => SLICED_FORMAT,
         G_FMT | S_FMT | TRY_FMT => FORMAT,
         REQBUFS => BUFFERS,
         QUERYBUF | QBUF | DQBUF => BUFFER,
@@ -77,6 +99,7 @@ pub fn name_at(word: u32, at: usize) -> &'static str {
         CROPCAP => CROPPING,
         G_CROP | S_CROP => CROP,
         STREAMON | STREAMOFF => &[(0, "type")],
+        G_SLICED_VBI_CAP => SLICED_CAPABILITY,
         _ => &[],
     };
     names.iter().rev().find(|(start, _)| *start <= at).map_or("no known field", |(_, name)| name)

@@ -8,6 +8,7 @@ pub mod faulty;
 pub mod fields;
 pub mod generate;
 pub mod guarded;
+pub mod judge;
 pub mod model;
 pub mod random;
 pub mod recorder;

@@ -2,6 +2,11 @@
 
 use crate::model;
 
+/// The two streams, by the buffer types that name them: video capture, and sliced VBI capture.
+pub const PICTURES: u32 = 1;
+pub const CAPTIONS: u32 = 6;
+pub const STREAMS: [u32; 2] = [PICTURES, CAPTIONS];
+
 /// The answers to an arrival.
 pub const REFUSED: u32 = 0;
 pub const IGNORED: u32 = 1;
@@ -35,11 +40,12 @@ pub struct Plane {
 
 /// A capture device that can be opened again and again.
 pub trait Recorder {
-    /// A new device of this sheet takes the place of the old one.
-    fn open(&mut self, sheet: &[u8], picture_length: u64) -> u32;
+    /// A new device of this sheet takes the place of the old one. The lengths are those of the picture memory and of the
+    /// caption memory.
+    fn open(&mut self, sheet: &[u8], lengths: [u64; 2]) -> u32;
     fn request(&mut self, word: u32, argument: &mut [u8]) -> u32;
-    fn arrival(&mut self, memory: &mut [u8], frame: &[u8], seconds: i32, microseconds: i32) -> Arrived;
-    fn verdict(&self) -> u32;
+    fn arrival(&mut self, kind: u32, memory: &mut [u8], frame: &[u8], seconds: i32, microseconds: i32) -> Arrived;
+    fn verdict(&self, kind: u32) -> u32;
     fn plane(&self, frame_length: usize, plane: u32) -> Plane;
 
     /// Fills what the device is made of with bytes of this seed, before an opening; 0 stands for zero bytes.
@@ -55,8 +61,8 @@ pub trait Recorder {
 }
 
 impl Recorder for model::Device {
-    fn open(&mut self, sheet: &[u8], picture_length: u64) -> u32 {
-        let (number, device) = model::open(sheet, picture_length);
+    fn open(&mut self, sheet: &[u8], lengths: [u64; 2]) -> u32 {
+        let (number, device) = model::open(sheet, lengths);
         *self = device;
         number
     }
@@ -65,12 +71,12 @@ impl Recorder for model::Device {
         model::Device::request(self, word, argument)
     }
 
-    fn arrival(&mut self, memory: &mut [u8], frame: &[u8], seconds: i32, microseconds: i32) -> Arrived {
-        model::Device::arrival(self, memory, frame, seconds, microseconds)
+    fn arrival(&mut self, kind: u32, memory: &mut [u8], frame: &[u8], seconds: i32, microseconds: i32) -> Arrived {
+        model::Device::arrival(self, kind, memory, frame, seconds, microseconds)
     }
 
-    fn verdict(&self) -> u32 {
-        model::Device::verdict(self)
+    fn verdict(&self, kind: u32) -> u32 {
+        model::Device::verdict(self, kind)
     }
 
     fn plane(&self, frame_length: usize, plane: u32) -> Plane {

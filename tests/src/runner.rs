@@ -4,10 +4,11 @@ use crate::ask::ask;
 use crate::coverage::{Coverage, Stream};
 use crate::fields;
 use crate::guarded::Guarded;
+use crate::judge::{judge, Judged};
 use crate::model::bytes::word;
-use crate::model::words::{size, DQBUF, QUERYBUF};
+use crate::model::words::{size, DQBUF, G_FMT, QUERYBUF, S_FMT};
 use crate::random;
-use crate::recorder::{Recorder, IGNORED, REFUSED, RUNNING};
+use crate::recorder::{Recorder, BLANK, CAPTIONS, DAMAGED, IGNORED, REFUSED, RUNNING, STREAMS};
 use crate::session::{made_length, Arrival, Lent, Session, Step};
 use std::fmt::Debug;
 
@@ -25,7 +26,8 @@ pub struct Difference {
 #[derive(Default)]
 struct Side {
     argument: Guarded,
-    memory: Guarded,
+    /// Of the pictures, and of the captions.
+    memories: [Guarded; 2],
     other: Guarded,
 }
 
@@ -37,6 +39,8 @@ pub struct Runner {
     sheet: Guarded,
     frame: Guarded,
     copy: Vec<u8>,
+    /// All services that were negotiated since the last opening, as an answer of S_FMT has them.
+    ever: Vec<u8>,
     /// What the tested device kept before and after a call.
     before: Vec<u8>,
     after: Vec<u8>,
@@ -54,7 +58,7 @@ impl Runner {
         let before = session.before_opening();
         expected.scramble(before);
         tested.scramble(before);
-        self.prepare_memory(0, 0);
+        self.prepare_memories([0, 0], 0);
         for (place, step) in session.steps.iter().enumerate() {
             coverage.calls += 1;
             self.step(place, step, expected, tested, coverage)
@@ -62,7 +66,8 @@ impl Runner {
                 .map_err(|difference| Difference { step: place, ..difference })?;
         }
         coverage.sessions += 1;
-        Ok(())
+        let last = session.steps.len().saturating_sub(1);
+        self.both_memories().map_err(|difference| Difference { step: last, ..difference })
     }
 
     fn step<E: Recorder, T: Recorder>(
@@ -74,18 +79,23 @@ impl Runner {
         coverage: &mut Coverage,
     ) -> Result<(), Difference> {
         match step {
-            Step::Open { sheet, picture_length } => {
-                let number = self.opening(place, sheet, *picture_length, expected, tested)?;
+            Step::Open { sheet, lengths } => {
+                let number = self.opening(place, sheet, *lengths, expected, tested)?;
                 coverage.opening(number);
-                self.prepare_memory(made_length(*picture_length), sheet.len() as u64);
+                self.prepare_memories(lengths.map(made_length), sheet.len() as u64);
+                self.ever = vec![0; size(S_FMT)];
                 Ok(())
             }
             Step::Request { word, argument } => {
                 let waiting = dequeued_from(expected, *word, argument);
                 let number = self.request(place, *word, argument, expected, tested)?;
-                coverage.request(*word, number);
-                if let Some(stream) = waiting {
-                    coverage.dequeue(stream, number);
+                coverage.request(*word, argument, number);
+                if *word == S_FMT && number == 0 && argument[0] == CAPTIONS as u8 {
+                    let answer = self.expected.argument.body();
+                    self.ever.iter_mut().zip(answer).for_each(|(ever, now)| *ever |= now);
+                }
+                if let Some((kind, stream)) = waiting {
+                    coverage.dequeue(kind, stream, number);
                 }
                 Ok(())
             }
@@ -103,24 +113,36 @@ impl Runner {
         &mut self,
         place: usize,
         sheet: &[u8],
-        picture_length: u64,
+        lengths: [u64; 2],
         expected: &mut E,
         tested: &mut T,
     ) -> Result<u32, Difference> {
         self.sheet.set(sheet, place);
-        let number = expected.open(sheet, picture_length);
-        same("number", &number, &tested.open(self.sheet.body(), picture_length))?;
+        let number = expected.open(sheet, lengths);
+        same("number", &number, &tested.open(self.sheet.body(), lengths))?;
         same_bytes("sheet", sheet, self.sheet.body()).map_err(|(_, found)| found)?;
         intact("sheet", &self.sheet)?;
         self.sheet.body_mut().fill(0x5a);
         Ok(number)
     }
 
-    /// After an opening both sides have a memory of that length with the same bytes in it.
-    fn prepare_memory(&mut self, length: usize, seed: u64) {
-        self.expected.memory.reset(length, 0);
-        random::fill(seed, self.expected.memory.body_mut());
-        self.tested.memory.set(self.expected.memory.body(), 0);
+    /// After an opening both sides have memories of those lengths with the same bytes in them.
+    fn prepare_memories(&mut self, lengths: [usize; 2], seed: u64) {
+        let sides = self.expected.memories.iter_mut().zip(&mut self.tested.memories);
+        for ((left, right), length) in sides.zip(lengths) {
+            left.reset(length, 0);
+            random::fill(seed, left.body_mut());
+            right.set(left.body(), 0);
+        }
+    }
+
+    /// The memories of both sides, whole.
+    fn both_memories(&self) -> Result<(), Difference> {
+        for ((left, right), name) in self.expected.memories.iter().zip(&self.tested.memories).zip(MEMORIES) {
+            same_bytes(name, left.body(), right.body()).map_err(|(_, found)| found)?;
+            intact(name, right)?;
+        }
+        Ok(())
     }
 
     fn request<E: Recorder, T: Recorder>(
@@ -139,7 +161,7 @@ impl Runner {
         let got = tested.request(word, right.body_mut());
         same("number", &number, &got)?;
         same_bytes("argument", left.body(), right.body()).map_err(|(at, found)| Difference {
-            what: format!("argument, field {}", fields::name_at(word, at)),
+            what: format!("argument, field {}", fields::name_at(word, argument, at)),
             ..found
         })?;
         intact("argument", right)?;
@@ -157,28 +179,33 @@ impl Runner {
         tested: &mut T,
         coverage: &mut Coverage,
     ) -> Result<(), Difference> {
-        self.frame.reset(arrival.frame_length, place);
-        random::fill(arrival.frame_seed, self.frame.body_mut());
+        self.frame.reset(arrival.frame.length, place);
+        arrival.frame.write(self.frame.body_mut());
         self.copy.clear();
         self.copy.extend_from_slice(self.frame.body());
 
-        let (left, right) = match arrival.lent {
-            Lent::Memory => (&mut self.expected.memory, &mut self.tested.memory),
-            Lent::Other(length) => {
-                self.expected.other.reset(length, 0);
-                random::fill(1, self.expected.other.body_mut());
-                self.tested.other.set(self.expected.other.body(), place);
-                (&mut self.expected.other, &mut self.tested.other)
-            }
+        if let Lent::Other(length) = arrival.lent {
+            self.expected.other.reset(length, 0);
+            random::fill(1, self.expected.other.body_mut());
+            self.tested.other.set(self.expected.other.body(), place);
+        }
+        let (left, right, name) = match arrival.memory() {
+            Some(place) => (&mut self.expected.memories[place], &mut self.tested.memories[place], MEMORIES[place]),
+            None => (&mut self.expected.other, &mut self.tested.other, "lent memory"),
         };
         tested.content(&mut self.before);
-        let (seconds, microseconds) = (arrival.seconds, arrival.microseconds);
-        let answer = expected.arrival(left.body_mut(), &self.copy, seconds, microseconds);
-        let got = tested.arrival(right.body_mut(), self.frame.body(), seconds, microseconds);
-        coverage.arrival(answer);
+        let (kind, seconds, microseconds) = (arrival.kind, arrival.seconds, arrival.microseconds);
+        let answer = expected.arrival(kind, left.body_mut(), &self.copy, seconds, microseconds);
+        let got = tested.arrival(kind, right.body_mut(), self.frame.body(), seconds, microseconds);
+        coverage.arrival(kind, answer);
         same("answer to the arrival", &answer, &got)?;
-        same_bytes("picture memory", left.body(), right.body()).map_err(|(_, found)| found)?;
-        intact("picture memory", right)?;
+        same_bytes(name, left.body(), right.body()).map_err(|(_, found)| found)?;
+        intact(name, right)?;
+        if kind == CAPTIONS && !matches!(answer.answer, REFUSED | IGNORED) {
+            let judged = second_opinion(expected, &self.ever, &self.copy, microseconds);
+            coverage.judged(judged);
+            same(&format!("damaged, or {judged:?}"), &!judged.is_whole(), &(answer.answer == DAMAGED))?;
+        }
         same_bytes("frame", &self.copy, self.frame.body()).map_err(|(_, found)| found)?;
         intact("frame", &self.frame)?;
         if matches!(answer.answer, REFUSED | IGNORED) {
@@ -193,7 +220,7 @@ impl Runner {
         same_bytes("device after a refusal", &self.before, &self.after).map_err(|(_, found)| found)
     }
 
-    /// The verdict and a plane after every step, all planes after every eighth.
+    /// The verdicts and a plane after every step, all planes after every eighth.
     fn probe<E: Recorder, T: Recorder>(
         &mut self,
         place: usize,
@@ -201,9 +228,13 @@ impl Runner {
         tested: &T,
         coverage: &mut Coverage,
     ) -> Result<(), Difference> {
-        let verdict = expected.verdict();
-        coverage.verdict(verdict);
-        same("verdict", &verdict, &tested.verdict())?;
+        for kind in STREAMS {
+            let verdict = expected.verdict(kind);
+            coverage.verdict(kind, verdict);
+            same(&format!("verdict of type {kind}"), &verdict, &tested.verdict(kind))?;
+        }
+        let other = OTHER_TYPES[place % OTHER_TYPES.len()];
+        same(&format!("verdict of type {other}"), &BLANK, &tested.verdict(other))?;
         let size = expected.image_size();
         let planes = if place % 8 == 7 { 0..4 } else { place as u32 % 4..place as u32 % 4 + 1 };
         for plane in planes {
@@ -215,17 +246,34 @@ impl Runner {
     }
 }
 
-/// How a DQBUF with nothing wrong in its argument finds the stream, told by calls that change nothing.
-fn dequeued_from<R: Recorder>(device: &mut R, request: u32, argument: &[u8]) -> Option<Stream> {
-    if request != DQBUF || argument.len() != size(DQBUF) || word(argument, 4) != 1 || word(argument, 48) != 1 {
+const MEMORIES: [&str; 2] = ["picture memory", "caption memory"];
+
+/// Types that name no stream: their verdict is BLANK.
+const OTHER_TYPES: [u32; 8] = [0, 2, 5, 7, 0x0100_0001, 0x0000_0106, 0x8000_0006, u32::MAX];
+
+/// How a DQBUF with nothing wrong in its argument finds its stream, told by calls that change nothing.
+fn dequeued_from<R: Recorder>(device: &mut R, request: u32, argument: &[u8]) -> Option<(u32, Stream)> {
+    if request != DQBUF || argument.len() != size(DQBUF) || word(argument, 48) != 1 {
         return None;
     }
-    if device.verdict() == RUNNING {
-        return Some(Stream::Running);
+    let kind = STREAMS.into_iter().find(|kind| *kind == word(argument, 4))?;
+    if device.verdict(kind) == RUNNING {
+        return Some((kind, Stream::Running));
     }
-    match ask(device, QUERYBUF, &[(4, 1)]).0 {
-        0 => Some(Stream::Stopped),
-        _ => Some(Stream::NoBuffers),
+    match ask(device, QUERYBUF, &[(4, kind)]).0 {
+        0 => Some((kind, Stream::Stopped)),
+        _ => Some((kind, Stream::NoBuffers)),
+    }
+}
+
+/// What is wrong with a caption frame by the format that the device tells, and by all that were in force before.
+fn second_opinion<R: Recorder>(device: &mut R, ever: &[u8], frame: &[u8], microseconds: i32) -> Judged {
+    let (_, format) = ask(device, G_FMT, &[(0, CAPTIONS)]);
+    match judge(&format, frame, microseconds) {
+        Judged::NothingOnLine | Judged::OtherService if judge(ever, frame, microseconds).is_whole() => {
+            Judged::TakenAway
+        }
+        judged => judged,
     }
 }
 

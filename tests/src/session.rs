@@ -1,6 +1,10 @@
 //! A session: what a device is made to do, step by step.
 
-/// Longer picture memories are not made: such a device is opened, but lent an empty memory.
+use crate::model::services::RECORD;
+use crate::random;
+use crate::recorder::STREAMS;
+
+/// Longer memories are not made: such a device is opened, but lent an empty memory.
 pub const LONGEST_MADE: u64 = 4 << 20;
 
 #[derive(Clone)]
@@ -12,9 +16,10 @@ pub struct Session {
     pub steps: Vec<Step>,
 }
 
+/// A call. The lengths at an opening are those of the picture memory and of the caption memory.
 #[derive(Clone)]
 pub enum Step {
-    Open { sheet: Vec<u8>, picture_length: u64 },
+    Open { sheet: Vec<u8>, lengths: [u64; 2] },
     Request { word: u32, argument: Vec<u8> },
     Arrival(Arrival),
     Plane { frame_length: usize, plane: u32 },
@@ -22,26 +27,77 @@ pub enum Step {
 
 #[derive(Clone)]
 pub struct Arrival {
+    /// The buffer type that names the stream.
+    pub kind: u32,
     pub lent: Lent,
-    pub frame_length: usize,
-    /// The seed of the frame's bytes.
-    pub frame_seed: u64,
+    pub frame: Frame,
     pub seconds: i32,
     pub microseconds: i32,
 }
 
-/// What an arrival is lent for picture memory.
+/// The bytes of a frame, told in short.
+#[derive(Clone)]
+pub struct Frame {
+    pub length: usize,
+    /// The seed of its bytes.
+    pub seed: u64,
+    /// Service, field and line of one record after the other, written over these bytes as far as they reach.
+    pub heads: Vec<[u32; 3]>,
+}
+
+impl Frame {
+    /// Bytes that are no records.
+    pub fn plain(length: usize, seed: u64) -> Frame {
+        Frame { length, seed, heads: Vec::new() }
+    }
+
+    /// Records with these heads, and nothing behind them.
+    pub fn records(heads: Vec<[u32; 3]>, seed: u64) -> Frame {
+        Frame { length: RECORD * heads.len(), seed, heads }
+    }
+
+    pub fn write(&self, bytes: &mut [u8]) {
+        random::fill(self.seed, bytes);
+        for (record, head) in bytes.chunks_mut(RECORD).zip(&self.heads) {
+            let head = head.iter().flat_map(|number| number.to_le_bytes());
+            record.iter_mut().zip(head).for_each(|(byte, told)| *byte = told);
+        }
+    }
+
+    pub fn bytes(&self) -> Vec<u8> {
+        let mut bytes = vec![0; self.length];
+        self.write(&mut bytes);
+        bytes
+    }
+}
+
+/// What an arrival is lent for memory.
 #[derive(Clone, Copy, PartialEq)]
 pub enum Lent {
-    Memory,
+    /// The memory of its stream, that of the pictures for a type that names no stream.
+    Own,
+    /// The memory of the other stream.
+    Swapped,
     /// Other bytes, of this length.
     Other(usize),
 }
 
-/// The length of the picture memory that is made for an opening.
-pub fn made_length(picture_length: u64) -> usize {
-    if picture_length <= LONGEST_MADE {
-        picture_length as usize
+impl Arrival {
+    /// Which of the two memories is lent, the pictures' or the captions', and nothing for other bytes.
+    pub fn memory(&self) -> Option<usize> {
+        let own = STREAMS.iter().position(|kind| *kind == self.kind).unwrap_or(0);
+        match self.lent {
+            Lent::Own => Some(own),
+            Lent::Swapped => Some(1 - own),
+            Lent::Other(_) => None,
+        }
+    }
+}
+
+/// The length of a memory that is made for an opening.
+pub fn made_length(length: u64) -> usize {
+    if length <= LONGEST_MADE {
+        length as usize
     } else {
         0
     }

@@ -1,10 +1,11 @@
 //! Writes steps and sheets in the names of V4L2.
 
-use crate::model::bytes::{put, signed, word};
+use crate::model::bytes::{half, put, signed, word};
 use crate::model::sheet;
 use crate::model::words::{self, *};
+use crate::recorder::CAPTIONS;
 use crate::runner::{hex, Difference};
-use crate::session::{Lent, Session, Step};
+use crate::session::{Arrival, Lent, Session, Step};
 
 /// How a field is written.
 #[derive(Clone, Copy)]
@@ -22,8 +23,9 @@ const RECTANGLE: [Field; 5] =
     [(0, "type", Number), (4, "left", Signed), (8, "top", Signed), (12, "width", Signed), (16, "height", Signed)];
 
 /// The fields that are asked with, or that matter to a reader.
-fn fields(word: u32) -> &'static [Field] {
-    match word {
+fn fields(request: u32, argument: &[u8]) -> &'static [Field] {
+    match request {
+        G_FMT | S_FMT | TRY_FMT if word(argument, 0) == CAPTIONS => &[(0, "type", Number)],
         ENUM_FMT => &[(0, "index", Number), (4, "type", Number)],
         G_FMT | S_FMT | TRY_FMT => {
             &[(0, "type", Number), (4, "width", Number), (8, "height", Number), (12, "pixelformat", Code)]
@@ -34,6 +36,7 @@ fn fields(word: u32) -> &'static [Field] {
         G_CTRL | S_CTRL => &[(0, "id", Id), (4, "value", Signed)],
         QUERYCTRL => &[(0, "id", Id)],
         S_CROP => &RECTANGLE,
+        G_SLICED_VBI_CAP => &[(100, "type", Number)],
         _ => &[],
     }
 }
@@ -56,6 +59,18 @@ fn field(argument: &[u8], (at, name, kind): Field) -> String {
     }
 }
 
+/// The services that are asked for, line by line where any are; field and line stand before a line's set.
+fn services(argument: &[u8]) -> String {
+    let mut text = format!(" service_set={:#06x} service_lines", half(argument, 4));
+    for place in 0..48 {
+        let set = half(argument, 6 + 2 * place);
+        if set != 0 {
+            text += &format!(" {}/{}={set:#06x}", place / 24, place % 24);
+        }
+    }
+    text
+}
+
 /// A request: its named fields, and the other bytes if any is not zero.
 fn request(number: u32, argument: &[u8]) -> String {
     let Some((_, name)) = ALL.iter().find(|(known, _)| *known == number) else {
@@ -66,9 +81,13 @@ fn request(number: u32, argument: &[u8]) -> String {
     }
     let mut text = format!("VIDIOC_{name}");
     let mut rest = argument.to_vec();
-    for one in fields(number) {
+    for one in fields(number, argument) {
         text += &field(argument, *one);
         put(&mut rest, one.0, 0);
+    }
+    if matches!(number, S_FMT | TRY_FMT) && word(argument, 0) == CAPTIONS {
+        text += &services(argument);
+        rest[4..102].fill(0);
     }
     if rest.iter().any(|byte| *byte != 0) {
         text += &format!(" and other bytes {}", hex(&rest));
@@ -77,7 +96,7 @@ fn request(number: u32, argument: &[u8]) -> String {
 }
 
 /// The sheet in short, and whole as hex.
-fn opening(bytes: &[u8], picture_length: u64) -> String {
+fn opening(bytes: &[u8], [picture_length, caption_length]: [u64; 2]) -> String {
     let summary = match sheet::parse(bytes) {
         None => "a bad sheet".into(),
         Some(sheet) => {
@@ -113,23 +132,33 @@ fn opening(bytes: &[u8], picture_length: u64) -> String {
             text
         }
     };
-    format!("open, picture memory {picture_length}: {summary}\n        sheet {}", hex(bytes))
+    let memories = format!("picture memory {picture_length}, caption memory {caption_length}");
+    format!("open, {memories}: {summary}\n        sheet {}", hex(bytes))
+}
+
+/// A frame by its length, its seed and the heads of its records.
+fn arrival(arrival: &Arrival) -> String {
+    let frame = &arrival.frame;
+    let mut text = format!(
+        "arrival of type {}, {} bytes (seed {:#x}) at {} s {} us",
+        arrival.kind, frame.length, frame.seed, arrival.seconds, arrival.microseconds
+    );
+    match arrival.lent {
+        Lent::Own => {}
+        Lent::Swapped => text += ", lent the memory of the other stream",
+        Lent::Other(length) => text += &format!(", lent another memory of {length} bytes"),
+    }
+    for [service, field, line] in &frame.heads {
+        text += &format!("\n        record of service {service:#06x}, field {field}, line {line}");
+    }
+    text
 }
 
 pub fn step(step: &Step) -> String {
     match step {
-        Step::Open { sheet, picture_length } => opening(sheet, *picture_length),
+        Step::Open { sheet, lengths } => opening(sheet, *lengths),
         Step::Request { word, argument } => request(*word, argument),
-        Step::Arrival(arrival) => {
-            let lent = match arrival.lent {
-                Lent::Memory => String::new(),
-                Lent::Other(length) => format!(", lent another memory of {length} bytes"),
-            };
-            format!(
-                "arrival of {} bytes (seed {:#x}) at {} s {} us{lent}",
-                arrival.frame_length, arrival.frame_seed, arrival.seconds, arrival.microseconds
-            )
-        }
+        Step::Arrival(one) => arrival(one),
         Step::Plane { frame_length, plane } => format!("plane {plane} of a frame of {frame_length} bytes"),
     }
 }

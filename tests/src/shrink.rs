@@ -1,7 +1,8 @@
 //! Makes a session that shows a difference as short and as plain as it can be while it still shows one.
 
+use crate::model::services::RECORD;
 use crate::runner::Difference;
-use crate::session::{Session, Step};
+use crate::session::{Arrival, Frame, Session, Step};
 
 /// No more than this many sessions are tried.
 const TRIES: usize = 30_000;
@@ -85,7 +86,7 @@ impl<F: FnMut(&Session) -> Option<Difference>> Shrinker<F> {
         while place < self.best.steps.len() {
             simpler |= match self.best.steps[place] {
                 Step::Request { .. } => self.simplify_request(place),
-                Step::Arrival(_) => self.simplify_arrival(place),
+                Step::Arrival(_) => self.simplify_arrival(place) | self.drop_records(place),
                 Step::Open { .. } => self.simplify_opening(place),
                 Step::Plane { .. } => false,
             };
@@ -128,13 +129,13 @@ impl<F: FnMut(&Session) -> Option<Difference>> Shrinker<F> {
         simpler
     }
 
-    /// Plain times, zero bytes, no bytes.
+    /// Plain times, plain bytes, no bytes.
     fn simplify_arrival(&mut self, place: usize) -> bool {
         let Step::Arrival(now) = self.best.steps[place].clone() else {
             return false;
         };
         let mut simpler = false;
-        let mut attempt = |wanted: bool, change: &dyn Fn(&mut crate::session::Arrival)| {
+        let mut attempt = |wanted: bool, change: &dyn Fn(&mut Arrival)| {
             if wanted {
                 simpler |= self.consider_step(place, |step| {
                     if let Step::Arrival(arrival) = step {
@@ -145,8 +146,28 @@ impl<F: FnMut(&Session) -> Option<Difference>> Shrinker<F> {
         };
         attempt(now.seconds != 0, &|arrival| arrival.seconds = 0);
         attempt(now.microseconds != 0, &|arrival| arrival.microseconds = 0);
-        attempt(now.frame_seed > 1, &|arrival| arrival.frame_seed = 1);
-        attempt(now.frame_length != 0, &|arrival| arrival.frame_length = 0);
+        attempt(now.frame.seed > 1, &|arrival| arrival.frame.seed = 1);
+        attempt(now.frame.length != 0, &|arrival| arrival.frame = Frame::plain(0, arrival.frame.seed));
+        simpler
+    }
+
+    /// Takes away the records of a frame, one after the other.
+    fn drop_records(&mut self, place: usize) -> bool {
+        let mut simpler = false;
+        let mut at = 0;
+        while let Some(Step::Arrival(arrival)) = self.best.steps.get(place) {
+            if at >= arrival.frame.heads.len() {
+                break;
+            }
+            let dropped = self.consider_step(place, |step| {
+                if let Step::Arrival(Arrival { frame, .. }) = step {
+                    frame.heads.remove(at);
+                    frame.length = frame.length.saturating_sub(RECORD);
+                }
+            });
+            simpler |= dropped;
+            at += usize::from(!dropped);
+        }
         simpler
     }
 

@@ -1,40 +1,41 @@
 //! What the model answers to each step of a session, in words.
 
 use crate::model::Device;
-use crate::recorder::Recorder;
+use crate::recorder::{Recorder, STREAMS};
 use crate::session::{made_length, Lent, Session, Step};
 use crate::show;
 
-/// One text for each step: the step, the answer, and the verdict after it.
+/// One text for each step: the step, the answer, and the verdicts after it.
 pub fn trace(session: &Session) -> Vec<String> {
     let mut device = Device::closed();
-    let mut memory = Vec::new();
+    let mut memories = [Vec::new(), Vec::new()];
     let mut texts = Vec::new();
     for step in &session.steps {
         let answer = match step {
-            Step::Open { sheet, picture_length } => {
-                memory.resize(made_length(*picture_length), 0);
-                device.open(sheet, *picture_length).to_string()
+            Step::Open { sheet, lengths } => {
+                memories = lengths.map(|length| vec![0; made_length(length)]);
+                device.open(sheet, *lengths).to_string()
             }
             Step::Request { word, argument } => {
                 Recorder::request(&mut device, *word, &mut argument.clone()).to_string()
             }
             Step::Arrival(arrival) => {
-                let frame = vec![0; arrival.frame_length];
-                let mut other = Vec::new();
-                let lent = match arrival.lent {
-                    Lent::Memory => &mut memory,
-                    Lent::Other(length) => {
-                        other.resize(length, 0);
-                        &mut other
-                    }
+                let mut other = match arrival.lent {
+                    Lent::Other(length) => vec![0; length],
+                    _ => Vec::new(),
                 };
-                format!("{:?}", Recorder::arrival(&mut device, lent, &frame, arrival.seconds, arrival.microseconds))
+                let lent = match arrival.memory() {
+                    Some(place) => &mut memories[place],
+                    None => &mut other,
+                };
+                let (frame, time) = (arrival.frame.bytes(), (arrival.seconds, arrival.microseconds));
+                format!("{:?}", device.arrival(arrival.kind, lent, &frame, time.0, time.1))
             }
             Step::Plane { frame_length, plane } => format!("{:?}", Recorder::plane(&device, *frame_length, *plane)),
         };
-        let verdict = Recorder::verdict(&device);
-        texts.push(format!("{}\n        answer {answer}, then verdict {verdict}", show::step(step)));
+        let [pictures, captions] = STREAMS.map(|kind| device.verdict(kind));
+        let verdicts = format!("verdict {pictures} on pictures and {captions} on captions");
+        texts.push(format!("{}\n        answer {answer}, then {verdicts}", show::step(step)));
     }
     texts
 }

@@ -18,7 +18,7 @@ struct Bench<R> {
 
 impl<R: Recorder> Bench<R> {
     fn new(mut device: R) -> Bench<R> {
-        assert_eq!(device.open(&Draft::bench().bytes(), MEMORY as u64), 0);
+        assert_eq!(device.open(&Draft::bench().bytes(), [MEMORY as u64, 0]), 0);
         Bench { device, memory: vec![0; MEMORY] }
     }
 
@@ -58,7 +58,7 @@ impl<R: Recorder> Bench<R> {
     }
 
     fn arrive(&mut self, length: usize, fill: u8) -> Arrived {
-        self.device.arrival(&mut self.memory, &vec![fill; length], 7, 8)
+        self.device.arrival(PICTURES, &mut self.memory, &vec![fill; length], 7, 8)
     }
 }
 
@@ -118,12 +118,12 @@ fn contrast<R: Recorder>(mut bench: Bench<R>) {
 fn verdicts<R: Recorder>(mut bench: Bench<R>) {
     let size = word(&bench.format(YUYV, 304, 224), 24) as usize;
     bench.buffers(3);
-    assert_eq!(bench.device.verdict(), BLANK);
+    assert_eq!(bench.device.verdict(PICTURES), BLANK);
 
     bench.done(STREAMON, &[(0, 1)]);
-    assert_eq!(bench.device.verdict(), RUNNING);
+    assert_eq!(bench.device.verdict(PICTURES), RUNNING);
     bench.done(STREAMOFF, &[(0, 1)]);
-    assert_eq!(bench.device.verdict(), BLANK);
+    assert_eq!(bench.device.verdict(PICTURES), BLANK);
 
     bench.queue(1);
     bench.done(STREAMON, &[(0, 1)]);
@@ -133,13 +133,13 @@ fn verdicts<R: Recorder>(mut bench: Bench<R>) {
     let from = word(&handed, 52) as usize;
     assert!(bench.memory[from..from + size].iter().all(|byte| *byte == 9));
     bench.done(STREAMOFF, &[(0, 1)]);
-    assert_eq!(bench.device.verdict(), COMPLETE);
+    assert_eq!(bench.device.verdict(PICTURES), COMPLETE);
 
     bench.queue(1);
     bench.done(STREAMON, &[(0, 1)]);
     assert_eq!(bench.arrive(size, 5).answer, STORED);
     bench.done(STREAMOFF, &[(0, 1)]);
-    assert_eq!(bench.device.verdict(), BLANK);
+    assert_eq!(bench.device.verdict(PICTURES), BLANK);
 }
 
 fn numbers<R: Recorder>(mut bench: Bench<R>) {
@@ -153,7 +153,7 @@ fn numbers<R: Recorder>(mut bench: Bench<R>) {
     assert_eq!(bench.arrive(size, 1).answer, DROPPED);
     assert_eq!(word(&bench.dequeue(), 44), 1);
     bench.done(STREAMOFF, &[(0, 1)]);
-    assert_eq!(bench.device.verdict(), GAPS);
+    assert_eq!(bench.device.verdict(PICTURES), GAPS);
 }
 
 #[test]

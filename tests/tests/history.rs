@@ -1,9 +1,11 @@
-//! What can be told from the calls alone. Two queues are kept on paper, as the requirements describe them, and every
-//! stored frame, every dequeue, refused or not, the verdict and the sum of a run's arrivals are held against them. Nothing
-//! here looks into a device, so the model is tested as strictly as the library.
+//! What can be told from the calls alone. For each stream two queues are kept on paper, as the requirements describe them,
+//! and every stored frame, every dequeue, refused or not, the verdict and the sum of a run's arrivals are held against them.
+//! A stream's paper knows that stream's calls and no others. Nothing here looks into a device, so the model is tested as
+//! strictly as the library.
 
 use std::collections::VecDeque;
 use tollgutter_tests::ask::ask;
+use tollgutter_tests::judge::judge;
 use tollgutter_tests::model::bytes::{signed, word};
 use tollgutter_tests::model::words::*;
 use tollgutter_tests::model::Device;
@@ -22,10 +24,12 @@ struct Found {
     frame: Vec<u8>,
 }
 
-/// What is told from the calls of one list.
+/// What is told from the calls of one list that are about one stream.
 #[derive(Default)]
 struct Paper {
-    image_size: usize,
+    kind: u32,
+    /// What the last accepted S_FMT answered, or opening set: 204 bytes, zeros if there are no services.
+    format: Vec<u8>,
     incoming: VecDeque<u32>,
     outgoing: VecDeque<Found>,
     streaming: bool,
@@ -38,6 +42,15 @@ struct Paper {
 }
 
 impl Paper {
+    fn new(kind: u32, format: Vec<u8>) -> Paper {
+        Paper { kind, format, ..Paper::default() }
+    }
+
+    /// The image size, or the io size.
+    fn frame_size(&self) -> usize {
+        word(&self.format, if self.kind == PICTURES { 24 } else { 104 }) as usize
+    }
+
     fn stop(&mut self) {
         if self.streaming {
             self.discarded = self.outgoing.len() as u64;
@@ -54,10 +67,20 @@ impl Paper {
         }
     }
 
+    /// A request about this stream, with its argument before and after.
+    fn told(&mut self, request: u32, before: &[u8], number: u32, after: &[u8], memory: &[u8]) {
+        if request == DQBUF {
+            self.waits(before, number);
+        }
+        if number == 0 {
+            self.request(request, before, after, memory);
+        }
+    }
+
     /// An accepted request, with its argument before and after.
     fn request(&mut self, request: u32, before: &[u8], after: &[u8], memory: &[u8]) {
         match request {
-            S_FMT => self.image_size = word(after, 24) as usize,
+            S_FMT => self.format = after.to_vec(),
             QBUF => self.incoming.push_back(word(before, 0)),
             STREAMON => self.start(),
             STREAMOFF => self.stop(),
@@ -68,18 +91,17 @@ impl Paper {
             DQBUF => self.dequeue(after, memory),
             _ => {}
         }
+        // The answer names the stream that was asked.
+        assert!(type_at(request).is_none_or(|at| word(after, at) == self.kind));
     }
 
     /// What a client may read from the number of a DQBUF: 11 says that a run is on and that there are buffers. Outside a run
     /// every one of the right length gives 22, in a run one with nothing wrong in it gives 0 or 11.
     fn waits(&self, argument: &[u8], number: u32) {
         assert!(number != 11 || self.streaming && self.buffers > 0, "11 while there is nothing to wait for");
-        if argument.len() != size(DQBUF) {
-            return;
-        }
         if !self.streaming {
             assert_eq!(number, 22);
-        } else if word(argument, 4) == 1 && word(argument, 48) == 1 {
+        } else if word(argument, 48) == 1 {
             assert!(matches!(number, 0 | 11));
         }
     }
@@ -99,7 +121,10 @@ impl Paper {
     fn arrival(&mut self, one: &Arrival, frame: &[u8], arrived: Arrived) {
         let number = self.accepted as u32;
         self.accepted += 1;
-        let whole = frame.len() == self.image_size && (0..1_000_000).contains(&one.microseconds);
+        let whole = match self.kind {
+            PICTURES => frame.len() == self.frame_size() && (0..1_000_000).contains(&one.microseconds),
+            _ => judge(&self.format, frame, one.microseconds).is_whole(),
+        };
         if !whole {
             self.damaged += 1;
             assert_eq!(arrived.answer, DAMAGED);
@@ -127,56 +152,67 @@ impl Paper {
 }
 
 /// Only a stored frame writes, and only its own bytes at the start of its slot.
-fn check_memory(before: &[u8], after: &[u8], arrived: Arrived, frame: &[u8]) {
+fn check_memory(before: &[u8], after: &[u8], arrived: Arrived, frame: &[u8], frame_size: usize) {
     if arrived.answer != STORED {
         assert!(before == after, "memory changed");
         return;
     }
-    let from = arrived.buffer as usize * frame.len().next_multiple_of(4096);
+    let from = arrived.buffer as usize * frame_size.next_multiple_of(4096);
     let to = from + frame.len();
     assert!(before[..from] == after[..from] && after[from..to] == *frame && before[to..] == after[to..]);
 }
 
+/// The place of the stream that a request names: nothing if its argument has another length, or names none.
+fn place_of(request: u32, argument: &[u8]) -> Option<usize> {
+    let at = type_at(request).filter(|_| argument.len() == size(request))?;
+    STREAMS.iter().position(|kind| *kind == word(argument, at))
+}
+
 fn session<R: Recorder>(device: &mut R, seed: u64) {
-    let mut paper = Paper::default();
-    let mut memory = Vec::new();
+    let mut papers = STREAMS.map(|kind| Paper::new(kind, vec![0; 204]));
+    let mut memories = [Vec::new(), Vec::new()];
     device.scramble(0);
     for step in generate::session(seed).steps {
         match &step {
-            Step::Open { sheet, picture_length } => {
-                device.open(sheet, *picture_length);
-                memory = vec![0; made_length(*picture_length)];
-                let format = ask(device, G_FMT, &[(0, 1)]).1;
-                paper = Paper { image_size: word(&format, 24) as usize, ..Paper::default() };
+            Step::Open { sheet, lengths } => {
+                device.open(sheet, *lengths);
+                memories = lengths.map(|length| vec![0; made_length(length)]);
+                let format = ask(device, G_FMT, &[(0, PICTURES)]).1;
+                papers = [Paper::new(PICTURES, format), Paper::new(CAPTIONS, vec![0; 204])];
             }
-            Step::Request { word: request, argument } => {
+            Step::Request { word, argument } => {
                 let mut after = argument.clone();
-                let number = device.request(*request, &mut after);
-                if *request == DQBUF {
-                    paper.waits(argument, number);
-                }
-                if number == 0 {
-                    paper.request(*request, argument, &after, &memory);
+                let number = device.request(*word, &mut after);
+                match place_of(*word, argument) {
+                    Some(place) => papers[place].told(*word, argument, number, &after, &memories[place]),
+                    None => assert!(number > 11 || number == 0 && type_at(*word).is_none(), "no stream is named"),
                 }
             }
             Step::Arrival(one) => {
                 // Another memory of the right length would stand for the memory itself: left out here.
-                if one.lent == Lent::Memory {
-                    arrival(device, &mut paper, one, &mut memory);
+                if one.lent == Lent::Own {
+                    arrival(device, &mut papers, one, &mut memories);
                 }
             }
             Step::Plane { .. } => {}
         }
-        paper.check(device.verdict());
+        for paper in &papers {
+            paper.check(device.verdict(paper.kind));
+        }
     }
 }
 
-fn arrival<R: Recorder>(device: &mut R, paper: &mut Paper, one: &Arrival, memory: &mut [u8]) {
-    let mut frame = vec![0; one.frame_length];
-    random::fill(one.frame_seed, &mut frame);
-    let before = memory.to_vec();
-    let arrived = device.arrival(memory, &frame, one.seconds, one.microseconds);
-    check_memory(&before, memory, arrived, &frame);
+fn arrival<R: Recorder>(device: &mut R, papers: &mut [Paper; 2], one: &Arrival, memories: &mut [Vec<u8>; 2]) {
+    let frame = one.frame.bytes();
+    let Some(place) = STREAMS.iter().position(|kind| *kind == one.kind) else {
+        let arrived = device.arrival(one.kind, &mut memories[0], &frame, one.seconds, one.microseconds);
+        assert_eq!(arrived, Arrived { answer: REFUSED, number: 22, buffer: 0 });
+        return;
+    };
+    let (paper, memory) = (&mut papers[place], &mut memories[place]);
+    let before = memory.clone();
+    let arrived = device.arrival(one.kind, memory, &frame, one.seconds, one.microseconds);
+    check_memory(&before, memory, arrived, &frame, paper.frame_size());
     match arrived.answer {
         REFUSED => {}
         IGNORED => assert!(!paper.streaming),

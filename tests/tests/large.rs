@@ -13,7 +13,7 @@ const SLOT: usize = MEMORY / 32;
 
 fn last_slot_is_used<R: Recorder>(mut device: R) {
     let draft = Draft { formats: vec![(GREY, [0; 32])], width: [2, 8192, 2], height: [2, 4096, 2], ..Draft::bench() };
-    assert_eq!(device.open(&draft.bytes(), MEMORY as u64), 0);
+    assert_eq!(device.open(&draft.bytes(), [MEMORY as u64; 2]), 0);
     let mut memory = vec![0; MEMORY];
     let frame: Vec<u8> = (0..SLOT).map(|place| (place % 251) as u8 + 1).collect();
     let buffers = done(&mut device, REQBUFS, &[(0, u32::MAX), (4, 1), (8, 1)]);
@@ -21,7 +21,7 @@ fn last_slot_is_used<R: Recorder>(mut device: R) {
     done(&mut device, STREAMON, &[(0, 1)]);
     for (number, index) in [31, 0].into_iter().enumerate() {
         done(&mut device, QBUF, &[(0, index), (4, 1), (48, 1)]);
-        let arrived = device.arrival(&mut memory, &frame, 1, 2);
+        let arrived = device.arrival(PICTURES, &mut memory, &frame, 1, 2);
         assert_eq!(arrived, Arrived { answer: STORED, number: number as u32, buffer: index });
         let answer = done(&mut device, DQBUF, &[(4, 1), (48, 1)]);
         assert_eq!((word(&answer, 52) as usize, word(&answer, 56) as usize), (index as usize * SLOT, SLOT));

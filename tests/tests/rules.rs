@@ -13,7 +13,7 @@ use tollgutter_tests::session::Step;
 fn words_name_their_sizes() {
     for (word, name) in ALL {
         assert_eq!(word >> 8 & 0xff, 0x56, "{name}");
-        let (_, mut device) = model::open(&Draft::bench().bytes(), 0);
+        let (_, mut device) = model::open(&Draft::bench().bytes(), [0, 0]);
         for length in 0..300 {
             let number = device.request(word, &mut vec![0; length]);
             assert_eq!(number == 14, length != words::size(word), "{name} with {length} bytes");
@@ -29,7 +29,7 @@ fn good_drafts_are_good() {
     for _ in 0..3000 {
         for draft in [sheets::small(&mut random), sheets::limits(&mut random)] {
             let bytes = draft.bytes();
-            assert_eq!(model::open(&bytes, 0).0, 0, "{bytes:?}");
+            assert_eq!(model::open(&bytes, [0, 0]).0, 0, "{bytes:?}");
             lengths.push(bytes.len());
         }
     }
@@ -41,17 +41,25 @@ fn good_drafts_are_good() {
 #[test]
 fn damaged_sheets_are_mostly_refused() {
     let mut random = Random::new(2);
-    let refused = (0..5000).filter(|_| model::open(&damage::damaged(&mut random), 0).0 == 22).count();
+    let refused = (0..5000).filter(|_| model::open(&damage::damaged(&mut random), [0, 0]).0 == 22).count();
     assert!(refused > 4000, "{refused}");
 }
 
-/// A picture memory may have 2^30 bytes and no more.
+/// Each of the two memories may have 2^30 bytes and no more.
 #[test]
 fn memory_has_a_limit() {
     let sheet = Draft::bench().bytes();
-    assert_eq!(model::open(&sheet, 1 << 30).0, 0);
-    assert_eq!(model::open(&sheet, (1 << 30) + 1).0, 22);
-    assert_eq!(model::open(&sheet, u64::MAX).0, 22);
+    let most = 1 << 30;
+    for (lengths, number) in [
+        ([most, most], 0),
+        ([most + 1, most], 22),
+        ([most, most + 1], 22),
+        ([0, u64::MAX], 22),
+        ([u64::MAX, 0], 22),
+        ([0, 0], 0),
+    ] {
+        assert_eq!(model::open(&sheet, lengths).0, number, "{lengths:?}");
+    }
 }
 
 /// A refused or write-only request leaves the argument of the model as it was.
@@ -61,7 +69,7 @@ fn refusals_leave_the_argument() {
     for index in 0..2000 {
         for step in generate::session(random::mix(index)).steps {
             match step {
-                Step::Open { sheet, picture_length } => drop(device.open(&sheet, picture_length)),
+                Step::Open { sheet, lengths } => _ = device.open(&sheet, lengths),
                 Step::Request { word, argument } => {
                     let mut lent = argument.clone();
                     let number = Recorder::request(&mut device, word, &mut lent);
@@ -76,13 +84,20 @@ fn refusals_leave_the_argument() {
 /// After 2^32 - 1 accepted arrivals the run takes no more; the count is set here, since no session gets that far.
 #[test]
 fn a_run_has_a_limit() {
-    let (_, mut device) = model::open(&Draft::bench().bytes(), 1 << 20);
-    let mut memory = vec![0; 1 << 20];
-    let opened = device.opened_mut().expect("the bench sheet is good");
-    opened.stream.grant(1);
-    opened.stream.start();
-    opened.stream.run.accepted = model::RUN_LIMIT - 1;
-    assert_eq!(device.arrival(&mut memory, &[], 0, 0).answer, DAMAGED);
-    assert_eq!(device.arrival(&mut memory, &[], 0, 0), Arrived { answer: REFUSED, number: 75, buffer: 0 });
-    assert_eq!(device.verdict(), RUNNING);
+    let refused = Arrived { answer: REFUSED, number: 75, buffer: 0 };
+    for (kind, other) in [(PICTURES, CAPTIONS), (CAPTIONS, PICTURES)] {
+        let (_, mut device) = model::open(&Draft::bench().bytes(), [1 << 20, 1 << 20]);
+        let mut memory = vec![0; 1 << 20];
+        for kind in STREAMS {
+            let stream = device.opened_mut().and_then(|opened| opened.stream_mut(kind)).expect("a stream of this type");
+            stream.grant(1);
+            stream.start();
+        }
+        let stream = device.opened_mut().and_then(|opened| opened.stream_mut(kind)).expect("a stream of this type");
+        stream.run.accepted = model::RUN_LIMIT - 1;
+        assert_eq!(device.arrival(kind, &mut memory, &[1], 0, 0).answer, DAMAGED);
+        assert_eq!(device.arrival(kind, &mut memory, &[1], 0, 0), refused);
+        assert_eq!(device.arrival(other, &mut memory, &[1], 0, 0).answer, DAMAGED);
+        assert_eq!(device.verdict(kind), RUNNING);
+    }
 }

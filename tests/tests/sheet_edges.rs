@@ -132,7 +132,7 @@ fn edges<R: Recorder>(mut device: R) {
         let mut draft = Draft::bench();
         change(&mut draft);
         let expected = if good { 0 } else { 22 };
-        assert_eq!(device.open(&draft.bytes(), 4096), expected, "{name}");
+        assert_eq!(device.open(&draft.bytes(), [4096, 4096]), expected, "{name}");
         // A refused opening leaves a closed device, an accepted one is open.
         assert_eq!(device.request(0x8068_5600, &mut [0; 104]), expected, "{name}");
     }
@@ -145,14 +145,14 @@ fn contents<R: Recorder>(mut device: R) {
         for change in [1, 255, 128] {
             let mut other = sheet.clone();
             other[at] = other[at].wrapping_add(change);
-            assert_eq!(device.open(&other, 0), 22, "byte {at}");
+            assert_eq!(device.open(&other, [0, 0]), 22, "byte {at}");
         }
     }
     for length in 0..3000 {
         let mut other = sheet.clone();
         other.resize(length, 0);
         let expected = if length == sheet.len() { 0 } else { 22 };
-        assert_eq!(device.open(&other, 0), expected, "length {length}");
+        assert_eq!(device.open(&other, [0, 0]), expected, "length {length}");
     }
 }
 

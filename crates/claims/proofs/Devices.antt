@@ -7,7 +7,7 @@ use mathlib.Core.List.{List, [], _∷_}
 use lib.ListN.{length}
 use Rattle.device_opening.specs.Opening.{Whole, openedOf}
 use Rattle.device_film.specs.Film.{takenOf, takenMemory}
-use Rattle.claims.specs.Calls.{Call, arrivalTime}
+use Rattle.claims.specs.Calls.{Kind, Call, arrivalTime}
 use Rattle.claims.specs.Calls.Call.{request, arrival}
 use Rattle.claims.specs.Machine.{Session}
 use Rattle.claims.specs.Device.{Kept, takes, goesOn, keptAfter, machineOf, ourDevice}
@@ -24,17 +24,7 @@ keeps b = record { device = record { sheet = b .sheet; state = b .state }; memor
 
 same-next : (b : Box) (c : Call) → goesOn ourDevice (keeps b) c ≡ keeps (next b c)
 same-next b (request w a) = refl
-same-next b (arrival f x y other) = go (eqb (length other) (length (b .memory)))
-  where
-    kept : Bool → List ℕ → Kept Whole
-    kept v m = record {
-      device = record { sheet = b .sheet; state = takenOf (b .state) (length (cond v (b .memory) other)) (length f) (arrivalTime x y) .state };
-      memory = cond v (takenMemory (b .state) m f (arrivalTime x y)) (b .memory);
-    }
-
-    go : (v : Bool) → kept v (cond v (b .memory) other) ≡ kept v (b .memory)
-    go true = refl
-    go false = refl
+same-next b (arrival t f x y other) = refl
 
 same-after : (cs : List Call) (b : Box) → keptAfter ourDevice (keeps b) cs ≡ keeps (after b cs)
 same-after [] b = refl
@@ -45,19 +35,19 @@ abbrev seen : ℕ → (List Call → Kept Whole) → Session
 seen n k = record {
   opening = n;
   request = λ cs w a. ourDevice .request (k cs .device) w a .given;
-  arrival = λ cs f x y other. takes ourDevice (k cs) f x y other .arrival;
-  leaves = λ cs f x y other. ourDevice .arrive (k cs .device) other f x y .memory;
-  memory = λ cs. k cs .memory;
-  verdict = λ cs. ourDevice .verdict (k cs .device);
-  counts = λ cs. ourDevice .counts (k cs .device);
+  arrival = λ cs t f x y other. takes ourDevice (k cs) t f x y other .arrival;
+  leaves = λ cs t f x y other. ourDevice .arrive (k cs .device) t other f x y .memory;
+  memory = λ j cs. k cs .memory j;
+  counts = λ j cs. ourDevice .counts j (k cs .device);
+  verdict = λ cs t. ourDevice .verdict (k cs .device) t;
   plane = λ cs n j. ourDevice .plane (k cs .device) n j;
 }
 
 pub same-machine : machineOf ourDevice ≡ ours
-same-machine = fun-ext λ s. fun-ext λ m. ap (seen (openedOf s (length m) .number)) (fun-ext λ cs. same-after cs (opened s m))
+same-machine = fun-ext λ s. fun-ext λ m. ap (seen (openedOf s (length (m Kind.pictures)) (length (m Kind.captions)) .number)) (fun-ext λ cs. same-after cs (opened s m))
 
 ours-meets : Meets ours
-ours-meets = record { demand-1 = told-1; demand-2 = told-2; demand-3 = told-3; counts = told-counts; answers = told-answers; stopped-or-idle = λ s m. stopped-or-idle s m (ours s m) (told-1 s m) }
+ours-meets = record { demand-1 = told-1; demand-2 = told-2; demand-3 = told-3; counts = told-counts; answers = told-answers; stopped-or-idle = λ s m k. stopped-or-idle s m k (ours s m) (told-1 s m) }
 
 pub device-meets : Meets (machineOf ourDevice)
 device-meets = subst Meets (sym same-machine) ours-meets

@@ -9,6 +9,7 @@ pub mod Demand
 pub mod Totals
 pub mod Formats
 pub mod Arrivals
+pub mod Services
 pub mod Lists
 pub mod Told
 pub mod Tried

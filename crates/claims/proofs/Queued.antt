@@ -1,5 +1,7 @@
 -- Demand 3, the counts, the buffers and the verdicts of our device: what was proved of its boxes, told from the calls.
-use mathlib.Core.Path.{_≡_, refl, sym, ap, _∙_, subst}
+use mathlib.Core.Path.{_≡_, refl, sym, ap, ap₂, _∙_, subst}
+use borrow.Author.Tests.{ne-eqb}
+use Rattle.stream_words.specs.declared.Time.{Time}
 use mathlib.Core.Bool.{Bool, true, false, cond, not}
 use Prim.Native.Nat.{ℕ, _+_, _*_}
 use native.Mathlib.Omega.{arith}
@@ -26,88 +28,99 @@ use Rattle.buffer_replies.proofs.Lengths.{buffer-length, buffer-flags}
 use Rattle.device_state.specs.State.{State, closedState}
 use Rattle.device_state.specs.Answers.{Answer, refused}
 use Rattle.buffer_calls.specs.Buffers.{queriedAs, querybufOf}
-use Rattle.request_topics.specs.Request.{byStream, streamCall, callAnswer}
-use Rattle.device_film.specs.Film.{takenOf, takenMemory}
+use Rattle.stream_words.specs.Stream.{Stream}
+use Rattle.buffer_calls.specs.Buffers.{StreamAnswer}
+use Rattle.request_topics.specs.Request.{streamCall, callAnswer}
+use Rattle.device_film.specs.Film.{takenOf, takenMemory, frameSize}
 use Rattle.stream_history.specs.Paper.{Paper, blank, handedOver, noted, wholes, dequeues}
 use Rattle.stream_history.specs.Paper.Event.{whole}
 use Rattle.stream_history.specs.Claims.{timesIn, timesOut}
 use Rattle.stream_history.proofs.Machine.{leaves-append, noted-tells}
-use Rattle.claims.specs.Calls.{Call, arrivalTime}
+use Rattle.claims.specs.Calls.{Kind, typeOf, Call, Reply, arrivalTime}
 use Rattle.claims.specs.Calls.Call.{request, arrival}
 use Rattle.claims.specs.Calls.Reply.{answered, taken}
 use Rattle.claims.specs.Machine.{more}
-use Rattle.claims.specs.Words.{told, openingSize, eventsIn, paperIn, handedIn}
+use Rattle.claims.specs.Words.{told, seenIn, openingSize, eventsIn, paperIn, handedIn}
+use Rattle.claims.specs.Table.{kindOf}
+use Rattle.claims.specs.Device.{lentTo, streamOf}
+use Rattle.claims.proofs.Checks.{sizeOf}
+use Rattle.claims.proofs.Open.{same-type, kind-back, size-back}
 use Rattle.claims.specs.Meets.{since, StoredInIt, ReturnedWithIt, Comes, Demand3, Counts}
 use Rattle.claims.proofs.Boxes as boxes
-use Rattle.claims.proofs.Boxes.{Box, opened, asks, arrives, reply, next, after, events, paperAfter, handedAfter, boxAfter, ours}
+use Rattle.claims.proofs.Boxes.{Box, opened, asks, arrives, reply, seen, next, after, events, paperAfter, handedAfter, boxAfter, ours}
 use Rattle.claims.proofs.Steps.{whole-reply}
 use Rattle.claims.proofs.Formats.{Reached, reached}
 use Rattle.claims.proofs.Arrivals.{taken-is}
 use Rattle.claims.proofs.Totals.{history-equation, one-place}
 use Rattle.claims.proofs.Demand.{demand-3, verdict-means}
 use Rattle.claims.proofs.Lists as lists
-use Rattle.claims.proofs.Lists.{Since, one-more, same-events, same-paper}
-use Rattle.claims.proofs.Told.{closed-ready, lent-long}
+use Rattle.claims.proofs.Lists.{Since, one-more, same-seen, same-events, same-paper}
+use Rattle.claims.proofs.Told.{closed-ready, lent-long, stream-argument}
 
 untaken : {x y : Arrival} → taken x ≡ taken y → x ≡ y
 untaken h = cc h
 
 -- an index that is there is told as it stands
-pub querybuf-answers : (d : State) (a : List ℕ) → length a ≡ 68 → streamCall querybufOf 4 d a .number ≡ 0
-    → streamCall querybufOf 4 d a .argument ≡ bufferReply 1 (statusOf (d .stream) (wordAt a 0) (d .size))
+pub querybuf-answers : (x : Stream) (kind size : ℕ) (a : List ℕ) → length a ≡ 68 → querybufOf x kind size a .number ≡ 0
+    → querybufOf x kind size a .argument ≡ bufferReply kind (statusOf x (wordAt a 0) size)
 unfolding querybufOf queryOf
-querybuf-answers d a l = go (not (eqb (wordAt a 4) 1)) (leb (d .stream .queues .granted) (wordAt a 0))
+querybuf-answers x kind size a l = go (leb (x .queues .granted) (wordAt a 0))
   where
     st : Status
-    st = statusOf (d .stream) (wordAt a 0) (d .size)
+    st = statusOf x (wordAt a 0) size
 
-    r : Bool → Bool → Answer
-    r x y = cond x (refused WrongType d a) (byStream d (queriedAs (cond y (queries.Refused NoSuchIndex) (queries.Buffer (statusOf (d .stream) (wordAt a 0) (d .size)))) (d .stream) 1 a))
+    r : Bool → StreamAnswer
+    r y = queriedAs (cond y (queries.Refused NoSuchIndex) (queries.Buffer (statusOf x (wordAt a 0) size))) x kind a
 
-    go : (x y : Bool) → r x y .number ≡ 0 → r x y .argument ≡ bufferReply 1 (statusOf (d .stream) (wordAt a 0) (d .size))
-    go true y h = absurd (omega (arith, h))
-    go false true h = absurd (omega (arith, h))
-    go false false h = whole-reply a (bufferReply 1 st) 68 l (buffer-length 1 st)
+    go : (y : Bool) → r y .number ≡ 0 → r y .argument ≡ bufferReply kind (statusOf x (wordAt a 0) size)
+    go true h = absurd (omega (arith, h))
+    go false h = whole-reply a (bufferReply kind st) 68 l (buffer-length kind st)
+
+-- a frame is refused when a memory of another length is lent
+refused-length : (k : Kind) (d : State) (l : ℕ) (f : List ℕ) (t : Time) → eqb (d .ready) 0 ≡ false → eqb l (streamOf k d .length) ≡ false → takenOf d (typeOf k) l f t .arrival ≡ Refused MemoryLength
+refused-length Kind.pictures d l f t e n = taken-is d 1 l f t .0 ∙ rw (e, n)
+refused-length Kind.captions d l f t e n = taken-is d 6 l f t .0 ∙ rw (e, n)
 
 -- with these flags
-status-flags : (d : State) (k : ℕ) → statusOf (d .stream) k (d .size) .flags ≡ flagsFor (standingOf (d .stream .queues) k)
+status-flags : (x : Stream) (i size : ℕ) → statusOf x i size .flags ≡ flagsFor (standingOf (x .queues) i)
 unfolding statusOf describedOf
-status-flags d k = refl
+status-flags x i size = refl
 
-module _ (s m : List ℕ) where
-  same-handed : (cs : List Call) → handedIn s (ours s m) cs ≡ handedAfter s m cs
-  same-handed cs = ap (handedOver (blank (openingSize s)) []) (same-events s m cs [] (blank (openingSize s)))
+module _ (s : List ℕ) (m : Kind → List ℕ) (k : Kind) where
+  same-handed : (cs : List Call) → handedIn s (ours s m) k cs ≡ handedAfter s m k cs
+  same-handed cs = ap (handedOver (blank (openingSize s k)) []) (same-events s m k cs [] (blank (openingSize s k)))
 
   module _ (before : List Call) (w : ℕ) (a : List ℕ) (mid : List Call) where
-    same-since : since s (ours s m) before w a mid ≡ boxes.since s m before w a mid
+    same-since : since s (ours s m) k before w a mid ≡ boxes.since s m k before w a mid
     same-since =
-        ap (λ (p : Paper). eventsIn (ours s m) (more before (request w a)) p mid) (same-paper s m (more before (request w a)))
-        ∙ same-events s m mid (more before (request w a)) (paperAfter s m (more before (request w a)))
+        ap (λ (p : Paper). eventsIn s (ours s m) k (more before (request w a)) p mid) (same-paper s m k (more before (request w a)))
+        ∙ same-events s m k mid (more before (request w a)) (paperAfter s m k (more before (request w a)))
 
     -- the QBUF that was accepted
     was : ours s m .request before w a .number ≡ 0 → (b : List ℕ) × (reply (boxAfter s m before) (request w a) ≡ answered 0 b)
-    was n = (asks (boxAfter s m before) w a .argument, ap (λ (k : ℕ). answered k (asks (boxAfter s m before) w a .argument)) n)
+    was n = (asks (boxAfter s m before) w a .argument, ap (λ (j : ℕ). answered j (asks (boxAfter s m before) w a .argument)) n)
 
-    stored : StoredInIt s (ours s m) before w a mid
-    stored f x y other (e, n, c) i h =
+    stored : StoredInIt s (ours s m) k before w a mid
+    stored f x y other (e, nm, n, c) i h =
         let cs : List Call = before ++ request w a ∷ mid in
-        let (p, q) = demand-3 s m before w a mid .0 f x y other (e, was n, rw same-since at c)
-        (ap wholes (sym same-since) ∙ i ∙ ap (λ (p : Paper). length (p .incoming)) (same-paper s m before))
-        (subst (λ (p : Paper). told p (arrival f x y other) (reply (boxAfter s m cs) (arrival f x y other)) ≡ whole f (arrivalTime x y)) (same-paper s m cs) h) in (
-          untaken p ∙ ap (λ (p : Paper). Stored (wordAt a 0) (p .run .accepted)) (sym (same-paper s m cs)),
-          ap (λ (p : Paper). take (length f) (drop (slotOffset (wordAt a 0) (p .size)) (boxAfter s m (more cs (arrival f x y other)) .memory))) (same-paper s m cs)
-              ∙ ap (λ (b : Box). take (length f) (drop (slotOffset (wordAt a 0) (paperAfter s m cs .size)) (b .memory))) (one-more s m cs (arrival f x y other)) ∙ q,
+        let v : Call = arrival (typeOf k) f x y other in
+        let (p, q) = demand-3 s m k before w a mid .0 f x y other (e, nm, was n, rw same-since at c)
+        (ap wholes (sym same-since) ∙ i ∙ ap (λ (p : Paper). length (p .incoming)) (same-paper s m k before))
+        (sym (ap₂ (λ (p : Paper) (z : Reply × List ℕ). told k p v z) (same-paper s m k cs) (same-seen s m cs v)) ∙ h) in (
+          untaken p ∙ ap (λ (p : Paper). Stored (wordAt a 0) (p .run .accepted)) (sym (same-paper s m k cs)),
+          ap (λ (p : Paper). take (length f) (drop (slotOffset (wordAt a 0) (p .size)) (boxAfter s m (more cs v) .memory k))) (same-paper s m k cs)
+              ∙ ap (λ (b : Box). take (length f) (drop (slotOffset (wordAt a 0) (paperAfter s m k cs .size)) (b .memory k))) (one-more s m cs v) ∙ q,
         )
 
     -- the arrival behind it
-    comes : (n : ℕ) → boxes.ArrivalAmong (boxAfter s m (more before (request w a))) (paperAfter s m (more before (request w a))) mid n
-        → Comes s (ours s m) (more before (request w a)) mid n
+    comes : (n : ℕ) → boxes.ArrivalAmong k (boxAfter s m (more before (request w a))) (paperAfter s m k (more before (request w a))) mid n
+        → Comes s (ours s m) k (more before (request w a)) mid n
     comes n r =
         let h : List Call = more before (request w a) in
-        let c : Call = arrival (r .frame) (r .seconds) (r .microseconds) (r .other) in
-        let p : paperIn s (ours s m) (h ++ r .front) ≡ noted (paperAfter s m h) (events (boxAfter s m h) (paperAfter s m h) (r .front)) =
-        same-paper s m (h ++ r .front) ∙ noted-tells reply next told h (r .front) (opened s m) (blank (openingSize s)) in
-        let b : boxAfter s m (h ++ r .front) ≡ after (boxAfter s m h) (r .front) = leaves-append reply next told h (r .front) (opened s m) in
+        let c : Call = arrival (typeOf k) (r .frame) (r .seconds) (r .microseconds) (r .other) in
+        let p : paperIn s (ours s m) k (h ++ r .front) ≡ noted (paperAfter s m k h) (events k (boxAfter s m h) (paperAfter s m k h) (r .front)) =
+        same-paper s m k (h ++ r .front) ∙ noted-tells seen next (told k) h (r .front) (opened s m) (blank (openingSize s k)) in
+        let b : boxAfter s m (h ++ r .front) ≡ after (boxAfter s m h) (r .front) = leaves-append seen next (told k) h (r .front) (opened s m) in
         record {
           front = r .front;
           frame = r .frame;
@@ -116,109 +129,133 @@ module _ (s m : List ℕ) where
           other = r .other;
           back = r .back;
           is = r .is;
-          accepted = ap (λ (p : Paper). told p c (reply (boxAfter s m (h ++ r .front)) c)) p
-              ∙ ap (λ (x : Box). told (noted (paperAfter s m h) (events (boxAfter s m h) (paperAfter s m h) (r .front))) c (reply x c)) b ∙ r .accepted;
-          place = ap (λ (p : Paper). wholes (eventsIn (ours s m) h p (r .front))) (same-paper s m h) ∙ ap wholes (same-events s m (r .front) h (paperAfter s m h)) ∙ r .place;
+          accepted = ap₂ (λ (p : Paper) (z : Reply × List ℕ). told k p c z) p (same-seen s m (h ++ r .front) c)
+              ∙ ap (λ (x : Box). told k (noted (paperAfter s m k h) (events k (boxAfter s m h) (paperAfter s m k h) (r .front))) c (seen x c)) b ∙ r .accepted;
+          place = ap (λ (p : Paper). wholes (eventsIn s (ours s m) k h p (r .front))) (same-paper s m k h) ∙ ap wholes (same-events s m k (r .front) h (paperAfter s m k h)) ∙ r .place;
         }
 
-    returned : ReturnedWithIt s (ours s m) before w a mid
+    returned : ReturnedWithIt s (ours s m) k before w a mid
     unfolding comes
-    returned v c (e, n, k) d q z =
+    returned v c (e, nm, n, j) d q dn z =
         let cs : List Call = before ++ request w a ∷ mid in
-        let i : length (paperIn s (ours s m) before .incoming) ≡ length (paperAfter s m before .incoming) = ap (λ (p : Paper). length (p .incoming)) (same-paper s m before) in
-        let o : length (paperIn s (ours s m) before .outgoing) ≡ length (paperAfter s m before .outgoing) = ap (λ (p : Paper). length (p .outgoing)) (same-paper s m before) in
-        let (r, x1, x2, x3, x4, x5, x6) = demand-3 s m before w a mid .1 v c (asks (boxAfter s m cs) v c .argument) (e, was n, rw same-since at k)
-        (ap dequeues (sym same-since) ∙ d ∙ omega (arith, i, o)) q (ap (λ (k : ℕ). answered k (asks (boxAfter s m cs) v c .argument)) z) in
-        subst (λ (n : ℕ). (r : Comes s (ours s m) (more before (request w a)) mid n)
+        let i : length (paperIn s (ours s m) k before .incoming) ≡ length (paperAfter s m k before .incoming) = ap (λ (p : Paper). length (p .incoming)) (same-paper s m k before) in
+        let o : length (paperIn s (ours s m) k before .outgoing) ≡ length (paperAfter s m k before .outgoing) = ap (λ (p : Paper). length (p .outgoing)) (same-paper s m k before) in
+        let (r, x1, x2, x3, x4, x5, x6) = demand-3 s m k before w a mid .1 v c (asks (boxAfter s m cs) v c .argument) (e, nm, was n, rw same-since at j)
+        (ap dequeues (sym same-since) ∙ d ∙ omega (arith, i, o)) q dn (ap (λ (l : ℕ). answered l (asks (boxAfter s m cs) v c .argument)) z) in
+        subst (λ (n : ℕ). (r : Comes s (ours s m) k (more before (request w a)) mid n)
         × (wordAt (asks (boxAfter s m cs) v c .argument) 0 ≡ wordAt a 0)
-        × (wordAt (asks (boxAfter s m cs) v c .argument) 44 ≡ paperIn s (ours s m) (before ++ request w a ∷ r .front) .run .accepted)
+        × (wordAt (asks (boxAfter s m cs) v c .argument) 44 ≡ paperIn s (ours s m) k (before ++ request w a ∷ r .front) .run .accepted)
         × (wordAt (asks (boxAfter s m cs) v c .argument) 8 ≡ length (r .frame))
         × (signedAt (asks (boxAfter s m cs) v c .argument) 20 ≡ arrivalTime (r .seconds) (r .microseconds) .seconds)
         × (signedAt (asks (boxAfter s m cs) v c .argument) 24 ≡ arrivalTime (r .seconds) (r .microseconds) .microseconds)
-        × (take (length (r .frame)) (drop (wordAt (asks (boxAfter s m cs) v c .argument) 52) (boxAfter s m cs .memory)) ≡ r .frame)) (sym i)
-        (comes (length (paperAfter s m before .incoming)) r, x1, x2 ∙ ap (λ (p : Paper). p .run .accepted) (sym (same-paper s m (before ++ request w a ∷ r .front))), x3, x4, x5, x6)
+        × (take (length (r .frame)) (drop (wordAt (asks (boxAfter s m cs) v c .argument) 52) (boxAfter s m cs .memory k)) ≡ r .frame)) (sym i)
+        (comes (length (paperAfter s m k before .incoming)) r, x1, x2 ∙ ap (λ (p : Paper). p .run .accepted) (sym (same-paper s m k (before ++ request w a ∷ r .front))), x3, x4, x5, x6)
 
   -- ---- what is written
-  writes : (cs : List Call) (f : List ℕ) (x y : ℕ) (other : List ℕ)
-      → ours s m .memory (more cs (arrival f x y other)) ≡ writtenBy (ours s m .arrival cs f x y other) (paperIn s (ours s m) cs .size) (ours s m .memory cs) f
-  unfolding takenMemory
-  writes cs f x y other =
-      ap (λ (b : Box). b .memory) (one-more s m cs (arrival f x y other))
-      ∙ go (eqb (length other) (length (b .memory))) refl (lists.since s m cs)
-      ∙ ap (λ (p : Paper). writtenBy (arrives b f x y other .arrival) (p .size) (b .memory) f) (sym (same-paper s m cs))
+
+  -- a closed device refuses
+  closed : (cs : List Call) (l : ℕ) (f : List ℕ) (x y : ℕ) → boxAfter s m cs .state ≡ closedState → takenOf (boxAfter s m cs .state) (typeOf k) l f (arrivalTime x y) .arrival ≡ Refused Closed
+  closed cs l f x y d = taken-is (boxAfter s m cs .state) (typeOf k) l f (arrivalTime x y) .0 ∙ rw (closed-ready (boxAfter s m cs .state) d)
+
+  -- the size that is written by is the paper's
+  written-by : (cs : List Call) (l : ℕ) (f : List ℕ) (x y : ℕ) (z : List ℕ)
+      → writtenBy (takenOf (boxAfter s m cs .state) (typeOf k) l f (arrivalTime x y) .arrival) (frameSize (boxAfter s m cs .state) (typeOf k)) z f
+      ≡ writtenBy (takenOf (boxAfter s m cs .state) (typeOf k) l f (arrivalTime x y) .arrival) (paperAfter s m k cs .size) z f
+  written-by cs l f x y z = go (lists.since s m cs)
     where
-      b : Box
-      b = boxAfter s m cs
-
-      answer : Bool → Arrival
-      answer v = takenOf (b .state) (length (cond v (b .memory) other)) (length f) (arrivalTime x y) .arrival
-
-      closed : (v : Bool) → b .state ≡ closedState → answer v ≡ Refused Closed
-      closed v d = taken-is (b .state) (length (cond v (b .memory) other)) (length f) (arrivalTime x y) .0 ∙ rw (closed-ready (b .state) d)
-
-      go : (v : Bool) → eqb (length other) (length (b .memory)) ≡ v → Since s m cs
-          → cond v (writtenBy (answer true) (b .state .size) (b .memory) f) (b .memory) ≡ writtenBy (answer v) (paperAfter s m cs .size) (b .memory) f
-      go true e (Since.good g n t) = ap (λ (z : ℕ). writtenBy (answer true) z (b .memory) f) (t .safe .kept .tied .size)
-      go true e (Since.bad n d p) = rw (closed true d)
-      go false e (Since.good g n t) =
-          let q : answer false ≡ Refused MemoryLength = taken-is (b .state) (length other) (length f) (arrivalTime x y) .0 ∙ rw (t .safe .ready, t .safe .kept .tied .noted, e) in
-          rw q
-      go false e (Since.bad n d p) = rw (closed false d)
+      go : Since s m cs → writtenBy (takenOf (boxAfter s m cs .state) (typeOf k) l f (arrivalTime x y) .arrival) (frameSize (boxAfter s m cs .state) (typeOf k)) z f
+          ≡ writtenBy (takenOf (boxAfter s m cs .state) (typeOf k) l f (arrivalTime x y) .arrival) (paperAfter s m k cs .size) z f
+      go (Since.good g n t) = ap (λ (n : ℕ). writtenBy (takenOf (boxAfter s m cs .state) (typeOf k) l f (arrivalTime x y) .arrival) n z f) (size-back k (boxAfter s m cs .state) ∙ t k .safe .kept .tied .size)
+      go (Since.bad n d p) = rw (closed cs l f x y d)
 
   lends : (cs : List Call) (f : List ℕ) (x y : ℕ) (other : List ℕ)
-      → ours s m .leaves cs f x y other ≡ writtenBy (ours s m .arrival cs f x y other) (paperIn s (ours s m) cs .size) other f
+      → ours s m .leaves cs (typeOf k) f x y other ≡ writtenBy (ours s m .arrival cs (typeOf k) f x y other) (paperIn s (ours s m) k cs .size) other f
   unfolding takenMemory
   lends cs f x y other =
-      go (lists.since s m cs)
-      ∙ ap (λ (n : ℕ). writtenBy (takenOf (b .state) n (length f) (arrivalTime x y) .arrival) (paperAfter s m cs .size) other f) (sym (lent-long b other))
-      ∙ ap (λ (p : Paper). writtenBy (arrives b f x y other .arrival) (p .size) other f) (sym (same-paper s m cs))
+      let b : Box = boxAfter s m cs in
+      written-by cs (length other) f x y other
+      ∙ ap (λ (n : ℕ). writtenBy (takenOf (b .state) (typeOf k) n f (arrivalTime x y) .arrival) (paperAfter s m k cs .size) other f) (sym (lent-long (b .memory) (typeOf k) other))
+      ∙ ap (λ (p : Paper). writtenBy (arrives b (typeOf k) f x y other .arrival) (p .size) other f) (sym (same-paper s m k cs))
+
+  -- something of another length is lent: nothing is written
+  other-length : (cs : List Call) (f : List ℕ) (x y : ℕ) (other : List ℕ) → eqb (length other) (length (boxAfter s m cs .memory k)) ≡ false
+      → (z : List ℕ) (n : ℕ) → writtenBy (arrives (boxAfter s m cs) (typeOf k) f x y other .arrival) n z f ≡ z
+  other-length cs f x y other e z n = go (lists.since s m cs)
     where
       b : Box
       b = boxAfter s m cs
 
-      answer : Arrival
-      answer = takenOf (b .state) (length other) (length f) (arrivalTime x y) .arrival
+      long-is : arrives (boxAfter s m cs) (typeOf k) f x y other .arrival ≡ takenOf (boxAfter s m cs .state) (typeOf k) (length other) f (arrivalTime x y) .arrival
+      long-is = ap (λ (l : ℕ). takenOf (boxAfter s m cs .state) (typeOf k) l f (arrivalTime x y) .arrival) (lent-long (boxAfter s m cs .memory) (typeOf k) other)
 
-      go : Since s m cs → writtenBy answer (b .state .size) other f ≡ writtenBy answer (paperAfter s m cs .size) other f
-      go (Since.good g n t) = ap (λ (z : ℕ). writtenBy answer z other f) (t .safe .kept .tied .size)
-      go (Since.bad n d p) =
-          let q : answer ≡ Refused Closed = taken-is (b .state) (length other) (length f) (arrivalTime x y) .0 ∙ rw (closed-ready (b .state) d) in
-          rw q
+      go : Since s m cs → writtenBy (arrives (boxAfter s m cs) (typeOf k) f x y other .arrival) n z f ≡ z
+      go (Since.good g u t) = rw (long-is, refused-length k (boxAfter s m cs .state) (length other) f (arrivalTime x y) (t k .safe .ready) (ap (eqb (length other)) (t k .safe .kept .tied .noted) ∙ e))
+      go (Since.bad u d p) = rw (long-is, closed cs (length other) f x y d)
 
-  pub told-3 : Demand3 s m (ours s m)
+  writes : (cs : List Call) (f : List ℕ) (x y : ℕ) (other : List ℕ)
+      → ours s m .memory k (more cs (arrival (typeOf k) f x y other)) ≡ writtenBy (ours s m .arrival cs (typeOf k) f x y other) (paperIn s (ours s m) k cs .size) (ours s m .memory k cs) f
+  unfolding takenMemory
+  writes cs f x y other =
+      ap (λ (c : Box). c .memory k) (one-more s m cs (arrival (typeOf k) f x y other))
+      ∙ ap (λ (z : Bool). cond z (cond (eqb (length other) (length (b .memory k))) (writtenBy (arrives b (typeOf k) f x y other .arrival) (frameSize (b .state) (typeOf k)) (lentTo (b .memory) (typeOf k) other) f) (b .memory k)) (b .memory k)) (same-type k)
+      ∙ go (eqb (length other) (length (b .memory k))) refl
+      ∙ ap (λ (p : Paper). writtenBy (arrives b (typeOf k) f x y other .arrival) (p .size) (b .memory k) f) (sym (same-paper s m k cs))
+    where
+      b : Box
+      b = boxAfter s m cs
+
+      lent-is : (v : Bool) → eqb (length other) (length (b .memory k)) ≡ v → lentTo (b .memory) (typeOf k) other ≡ cond v (b .memory k) other
+      lent-is v e = ap (λ (j : Kind). cond (eqb (length other) (length (b .memory j))) (b .memory j) other) (kind-back k) ∙ ap (λ (x : Bool). cond x (b .memory k) other) e
+
+      go : (v : Bool) → eqb (length other) (length (b .memory k)) ≡ v
+          → cond v (writtenBy (arrives b (typeOf k) f x y other .arrival) (frameSize (b .state) (typeOf k)) (lentTo (b .memory) (typeOf k) other) f) (b .memory k)
+          ≡ writtenBy (arrives b (typeOf k) f x y other .arrival) (paperAfter s m k cs .size) (b .memory k) f
+      go true e =
+          ap (λ (z : List ℕ). writtenBy (arrives b (typeOf k) f x y other .arrival) (frameSize (b .state) (typeOf k)) z f) (lent-is true e)
+          ∙ written-by cs (length (lentTo (b .memory) (typeOf k) other)) f x y (b .memory k)
+      go false e = sym (other-length cs f x y other e (b .memory k) (paperAfter s m k cs .size))
+
+  pub told-3 : Demand3 s m (ours s m) k
   told-3 = record {
     stored = stored;
     returned = returned;
-    complete = λ cs. rw (same-paper s m cs, same-handed cs) (verdict-means s m cs Complete);
+    complete = λ cs. rw (same-paper s m k cs, same-handed cs) (verdict-means s m k cs Complete);
     lends = lends;
     begins = refl;
-    asks = λ cs w a. ap (λ (b : Box). b .memory) (one-more s m cs (request w a));
+    asks = λ cs w a. ap (λ (b : Box). b .memory k) (one-more s m cs (request w a));
     writes = writes;
+    elsewhere = λ cs t f x y other n.
+        ap (λ (b : Box). b .memory k) (one-more s m cs (arrival t f x y other))
+        ∙ ap (λ (z : Bool). cond z (cond (eqb (length other) (length (boxAfter s m cs .memory k))) (takenMemory (boxAfter s m cs .state) t (lentTo (boxAfter s m cs .memory) t other) f (arrivalTime x y)) (boxAfter s m cs .memory k)) (boxAfter s m cs .memory k)) (ne-eqb t (typeOf k) n);
   }
 
   -- ---- the flags that QUERYBUF answers
-  flags-told : (cs : List Call) (w : ℕ) (a : List ℕ) → requestOf w .call ≡ Querybuf → ours s m .request cs w a .number ≡ 0
-      → wordAt (ours s m .request cs w a .argument) 12 ≡ 2 * timesIn (paperIn s (ours s m) cs) (wordAt a 0) + 4 * timesOut (paperIn s (ours s m) cs) (wordAt a 0)
-  flags-told cs w a e h =
+  flags-told : (cs : List Call) (w : ℕ) (a : List ℕ) → requestOf w .call ≡ Querybuf → wordAt a 4 ≡ typeOf k → ours s m .request cs w a .number ≡ 0
+      → wordAt (ours s m .request cs w a .argument) 12 ≡ 2 * timesIn (paperIn s (ours s m) k cs) (wordAt a 0) + 4 * timesOut (paperIn s (ours s m) k cs) (wordAt a 0)
+  flags-told cs w a e nm h =
       let b : Box = boxAfter s m cs in
       let q : Reached (b .sheet) (b .state) w a = reached (b .sheet) (b .state) w a h in
       let is : asks b w a ≡ streamCall querybufOf 4 (b .state) a = q .is ∙ ap (λ (call : Asked). callAnswer call (b .sheet) (b .state) a) e in
-      let (x, y, z) = one-place s m cs (wordAt a 0) in
-      let st : Status = statusOf (b .state .stream) (wordAt a 0) (b .state .size) in
-      let fl : st .flags ≡ 2 * timesIn (paperAfter s m cs) (wordAt a 0) + 4 * timesOut (paperAfter s m cs) (wordAt a 0) = status-flags (b .state) (wordAt a 0) ∙ z in
+      let at : kindOf (wordAt a 4) ≡ k = ap kindOf nm ∙ kind-back k in
+      let (n, v) = subst (λ (j : Kind). (querybufOf (streamOf j (b .state)) (typeOf j) (sizeOf j (b .state)) a .number ≡ 0)
+      × (streamCall querybufOf 4 (b .state) a .argument ≡ querybufOf (streamOf j (b .state)) (typeOf j) (sizeOf j (b .state)) a .argument)) at
+      (stream-argument querybufOf 4 (b .state) a (ap (λ (r : Answer). r .number) (sym is) ∙ h)) in
+      let (x, y, z) = one-place s m k cs (wordAt a 0) in
+      let st : Status = statusOf (streamOf k (b .state)) (wordAt a 0) (sizeOf k (b .state)) in
+      let fl : st .flags ≡ 2 * timesIn (paperAfter s m k cs) (wordAt a 0) + 4 * timesOut (paperAfter s m k cs) (wordAt a 0) = status-flags (streamOf k (b .state)) (wordAt a 0) (sizeOf k (b .state)) ∙ z in
       ap (λ (r : Answer). wordAt (r .argument) 12) is
-      ∙ ap (λ (v : List ℕ). wordAt v 12) (querybuf-answers (b .state) a (q .long ∙ ap argumentSize e) (ap (λ (r : Answer). r .number) (sym is) ∙ h))
-      ∙ buffer-flags 1 st (omega (arith, x, fl))
-      ∙ fl ∙ ap (λ (p : Paper). 2 * timesIn p (wordAt a 0) + 4 * timesOut p (wordAt a 0)) (sym (same-paper s m cs))
+      ∙ ap (λ (l : List ℕ). wordAt l 12) (v ∙ querybuf-answers (streamOf k (b .state)) (typeOf k) (sizeOf k (b .state)) a (q .long ∙ ap argumentSize e) n)
+      ∙ buffer-flags (typeOf k) st (omega (arith, x, fl))
+      ∙ fl ∙ ap (λ (p : Paper). 2 * timesIn p (wordAt a 0) + 4 * timesOut p (wordAt a 0)) (sym (same-paper s m k cs))
 
-  pub told-counts : Counts s (ours s m)
+  pub told-counts : Counts s (ours s m) k
   told-counts = record {
-    adds = λ cs. rw (same-paper s m cs) (history-equation s m cs .0);
-    counted = λ cs. rw (same-paper s m cs) (history-equation s m cs .1);
-    once = λ cs k. rw (same-paper s m cs) (one-place s m cs k .0);
-    beyond = λ cs k. rw (same-paper s m cs) (one-place s m cs k .1);
+    adds = λ cs. rw (same-paper s m k cs) (history-equation s m k cs .0);
+    counted = λ cs. rw (same-paper s m k cs) (history-equation s m k cs .1);
+    once = λ cs i. rw (same-paper s m k cs) (one-place s m k cs i .0);
+    beyond = λ cs i. rw (same-paper s m k cs) (one-place s m k cs i .1);
     flags = flags-told;
-    running = λ cs. rw (same-paper s m cs) (verdict-means s m cs Running);
-    blank = λ cs. rw (same-paper s m cs) (verdict-means s m cs Blank);
-    gaps = λ cs. rw (same-paper s m cs) (verdict-means s m cs Gaps);
+    running = λ cs. rw (same-paper s m k cs) (verdict-means s m k cs Running);
+    blank = λ cs. rw (same-paper s m k cs) (verdict-means s m k cs Blank);
+    gaps = λ cs. rw (same-paper s m k cs) (verdict-means s m k cs Gaps);
   }

@@ -15,8 +15,8 @@ use Rattle.sheet_geometry.proofs.Copies.{kept-widths, kept-heights, kept-alignm
 use Rattle.sheet_rules.specs.Rules.{goodSheet}
 use Rattle.sheet_rules.proofs.Good.{fits-copy}
 use Rattle.negotiation_rules.specs.Negotiation.{openingFormat}
-use Rattle.device_state.specs.State.{State}
-use Rattle.device_state.specs.State.{closedState, openingState}
+use Rattle.service_rules.specs.Negotiation.{countBelow, ioSize}
+use Rattle.device_state.specs.State.{State, closedState, openingState}
 use Rattle.device_opening.specs.Opening.{Opened}
 use Rattle.device_opening.specs.Opening.{longestMemory, closedBy, openedOf}
 use Rattle.request_topics.specs.Request.{requestAnswer}
@@ -27,10 +27,11 @@ use Rattle.stream_history.proofs.Sound.{sound-blank}
 use Rattle.stream_history.proofs.Tied.{tied-opened}
 use Rattle.stream_history.proofs.Machine.{keeps-after}
 use Rattle.claims.specs.Calls.Call.{request, arrival}
+use Rattle.claims.specs.Calls.{Reply}
 use Rattle.claims.specs.Calls.Reply.{answered}
 use Rattle.claims.proofs.Steps.{Safe}
-use Rattle.claims.specs.Calls.{Call}
-use Rattle.claims.proofs.Boxes.{Box, opened, reply, next, after, events}
+use Rattle.claims.specs.Calls.{Kind, typeOf, Call}
+use Rattle.claims.proofs.Boxes.{Box, opened, reply, seen, next, after, events}
 use Rattle.claims.specs.Words.{told, openingSize}
 
 -- ---- closed
@@ -47,54 +48,60 @@ shut-state : (b : Box) (w : ℕ) (a : List ℕ) → Shut b → next b (request w
 unfolding requestAnswer
 shut-state b w a h = rw h
 
--- no call tells anything, and none changes the device
-shut-next : (b : Box) (p : Paper) (c : Call) → Shut b → (next b c .state ≡ b .state) × (told p c (reply b c) ≡ idle)
+either-idle : (x : Bool) → cond x idle idle ≡ idle
+either-idle true = refl
+either-idle false = refl
+
+-- no call tells a stream anything, and none changes the device
+shut-next : (k : Kind) (b : Box) (p : Paper) (c : Call) → Shut b → (next b c .state ≡ b .state) × (told k p c (seen b c) ≡ idle)
 unfolding takenOf
-shut-next b p (request w a) h = (shut-state b w a h, ap (told p (request w a)) (shut-request b w a h))
-shut-next b p (arrival f x y other) h = (rw h, rw h)
+shut-next k b p (request w a) h = (shut-state b w a h, ap (λ (r : Reply). told k p (request w a) (r, b .state .services)) (shut-request b w a h))
+shut-next k b p (arrival t f x y other) h = (rw h, rw h (either-idle (eqb t (typeOf k))))
 
 -- after any calls it is as it was, and the paper too
-pub shut-after : (cs : List Call) (b : Box) (p : Paper) → Shut b → (after b cs .state ≡ b .state) × (noted p (events b p cs) ≡ p)
-shut-after cs b p h = keeps-after reply next told Same same cs b p (refl, refl)
+pub shut-after : (k : Kind) (cs : List Call) (b : Box) (p : Paper) → Shut b → (after b cs .state ≡ b .state) × (noted p (events k b p cs) ≡ p)
+shut-after k cs b p h = keeps-after seen next (told k) Same same cs b p (refl, refl)
   where
     Same : Box → Paper → Type 0
     Same c q = (c .state ≡ b .state) × (q ≡ p)
 
-    same : (c : Box) (q : Paper) (x : Call) → (c .state ≡ b .state) × (q ≡ p) → (next c x .state ≡ b .state) × (step q (told q x (reply c x)) ≡ p)
+    same : (c : Box) (q : Paper) (x : Call) → (c .state ≡ b .state) × (q ≡ p) → (next c x .state ≡ b .state) × (step q (told k q x (seen c x)) ≡ p)
     same c q x (e, f) =
-        let (u, v) = shut-next c q x (ap (λ (d : State). eqb (d .ready) 0) e ∙ h) in
+        let (u, v) = shut-next k c q x (ap (λ (d : State). eqb (d .ready) 0) e ∙ h) in
         (u ∙ e, ap (step q) v ∙ f)
 
 -- ---- opening
 
 -- the copy has the sheet's first format, greatest size and alignment
-opening-size : (s : List ℕ) (n : ℕ) → goodSheet s ≡ true → openingState (keptOf s) n .size ≡ openingSize s
+opening-size : (s : List ℕ) (n m : ℕ) → goodSheet s ≡ true → openingState (keptOf s) n m .size ≡ openingSize s Kind.pictures
 unfolding openingState openingFormat
-opening-size s n good =
+opening-size s n m good =
     let fits : length s ≤ 2688 = omega (arith, fits-copy s good) in
     rw (kept-widths s fits, kept-heights s fits, kept-alignment s fits, kept-code s fits 0)
 
--- open, or closed
-pub data Begun (s m : List ℕ) : Type 0 where
-  safe : Safe (opened s m) (blank (openingSize s)) → Begun s m
+-- the lengths of the memories
+abbrev pub openedBy : List ℕ → (Kind → List ℕ) → Opened
+openedBy s m = openedOf s (length (m Kind.pictures)) (length (m Kind.captions))
+
+-- open, each stream as its paper says; or closed
+pub data Begun (s : List ℕ) (m : Kind → List ℕ) : Type 0 where
+  safe : ((k : Kind) → Safe k (opened s m) (blank (openingSize s k))) → Begun s m
   shut : opened s m .state ≡ closedState → Begun s m
 
--- the device that an opening gave, with its memory
-abbrev pub boxOf : Opened → List ℕ → Box
+-- the device that an opening gave, with its memories
+abbrev pub boxOf : Opened → (Kind → List ℕ) → Box
 boxOf o m = record { sheet = o .device .sheet; state = o .device .state; memory = m }
 
-abbrev pub goodOpening : List ℕ → ℕ → Opened
-goodOpening s n = record { number = 0; device = record { sheet = keptOf s; state = openingState (keptOf s) n } }
+abbrev pub goodOpening : List ℕ → (Kind → List ℕ) → Opened
+goodOpening s m = record { number = 0; device = record { sheet = keptOf s; state = openingState (keptOf s) (length (m Kind.pictures)) (length (m Kind.captions)) } }
 
--- an opening by its two tests
-pub opening-by : (s : List ℕ) (n : ℕ) (x y : Bool) → goodSheet s ≡ x → ltb longestMemory n ≡ y
-    → openedOf s n ≡ cond (not x) (closedBy BadSheet) (cond y (closedBy MemoryTooLong) (goodOpening s n))
+-- an opening by its three tests
+pub opening-by : (s : List ℕ) (m : Kind → List ℕ) (x y z : Bool) → goodSheet s ≡ x → ltb longestMemory (length (m Kind.pictures)) ≡ y → ltb longestMemory (length (m Kind.captions)) ≡ z
+    → openedBy s m ≡ cond (not x) (closedBy BadSheet) (cond y (closedBy MemoryTooLong) (cond z (closedBy MemoryTooLong) (goodOpening s m)))
 unfolding openedOf
-opening-by s n x y e f =
-    ap (λ (v : Bool). cond (not v) (closedBy BadSheet) (cond (ltb longestMemory n) (closedBy MemoryTooLong) (goodOpening s n))) e
-    ∙ ap (λ (v : Bool). cond (not x) (closedBy BadSheet) (cond v (closedBy MemoryTooLong) (goodOpening s n))) f
+opening-by s m x y z e f g = rw (e, f, g)
 
-pub closed-state : (why : Refusal) (m : List ℕ) → boxOf (closedBy why) m .state ≡ closedState
+pub closed-state : (why : Refusal) (m : Kind → List ℕ) → boxOf (closedBy why) m .state ≡ closedState
 unfolding closedBy
 closed-state why m = refl
 
@@ -103,24 +110,34 @@ pub closed-shut : (b : Box) → b .state ≡ closedState → Shut b
 unfolding closedState
 closed-shut b e = ap (λ (d : State). eqb (d .ready) 0) e
 
-pub good-safe : (s m : List ℕ) → goodSheet s ≡ true → ltb longestMemory (length m) ≡ false → Safe (boxOf (goodOpening s (length m)) m) (blank (openingSize s))
-unfolding openingState
-good-safe s m good short =
-    let z : ℕ = openingState (keptOf s) (length m) .size in
-    subst (λ (n : ℕ). Safe (boxOf (goodOpening s (length m)) m) (blank n)) (opening-size s (length m) good)
+pub good-safe : (s : List ℕ) (m : Kind → List ℕ) → goodSheet s ≡ true → ltb longestMemory (length (m Kind.pictures)) ≡ false → ltb longestMemory (length (m Kind.captions)) ≡ false
+    → (k : Kind) → Safe k (boxOf (goodOpening s m) m) (blank (openingSize s k))
+unfolding openingState ioSize countBelow
+good-safe s m good short shorter Kind.pictures =
+    let z : ℕ = openingState (keptOf s) (length (m Kind.pictures)) (length (m Kind.captions)) .size in
+    subst (λ (n : ℕ). Safe Kind.pictures (boxOf (goodOpening s m) m) (blank n)) (opening-size s (length (m Kind.pictures)) (length (m Kind.captions)) good)
     (record {
       ready = refl;
-      kept = record { tied = tied-opened z m; sound = sound-blank z };
-      short = ltb-false longestMemory (length m) short;
+      kept = record { tied = tied-opened z (m Kind.pictures); sound = sound-blank z };
+      short = ltb-false longestMemory (length (m Kind.pictures)) short;
       timed = tt;
       sized = (refl, refl);
     })
+good-safe s m good short shorter Kind.captions =
+    record {
+      ready = refl;
+      kept = record { tied = tied-opened 0 (m Kind.captions); sound = sound-blank 0 };
+      short = ltb-false longestMemory (length (m Kind.captions)) shorter;
+      timed = tt;
+      sized = (refl, refl);
+    }
 
-pub begins : (s m : List ℕ) → Begun s m
-begins s m = go (goodSheet s) refl (ltb longestMemory (length m)) refl
+pub begins : (s : List ℕ) (m : Kind → List ℕ) → Begun s m
+begins s m = go (goodSheet s) refl (ltb longestMemory (length (m Kind.pictures))) refl (ltb longestMemory (length (m Kind.captions))) refl
   where
-    go : (x : Bool) → goodSheet s ≡ x → (y : Bool) → ltb longestMemory (length m) ≡ y → Begun s m
-    go false e y f = shut (ap (λ (o : Opened). boxOf o m .state) (opening-by s (length m) false y e f) ∙ closed-state BadSheet m)
-    go true e true f = shut (ap (λ (o : Opened). boxOf o m .state) (opening-by s (length m) true true e f) ∙ closed-state MemoryTooLong m)
-    go true e false f =
-        safe (subst (λ (o : Opened). Safe (boxOf o m) (blank (openingSize s))) (sym (opening-by s (length m) true false e f)) (good-safe s m e f))
+    go : (x : Bool) → goodSheet s ≡ x → (y : Bool) → ltb longestMemory (length (m Kind.pictures)) ≡ y → (z : Bool) → ltb longestMemory (length (m Kind.captions)) ≡ z → Begun s m
+    go false e y f z g = shut (ap (λ (o : Opened). boxOf o m .state) (opening-by s m false y z e f g) ∙ closed-state BadSheet m)
+    go true e true f z g = shut (ap (λ (o : Opened). boxOf o m .state) (opening-by s m true true z e f g) ∙ closed-state MemoryTooLong m)
+    go true e false f true g = shut (ap (λ (o : Opened). boxOf o m .state) (opening-by s m true false true e f g) ∙ closed-state MemoryTooLong m)
+    go true e false f false g =
+        safe (λ k. subst (λ (o : Opened). Safe k (boxOf o m) (blank (openingSize s k))) (sym (opening-by s m true false false e f g)) (good-safe s m e f g k))

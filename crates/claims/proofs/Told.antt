@@ -1,5 +1,5 @@
 -- Demand 1 of our device: the tests of its state are those of the paper.
-use mathlib.Core.Path.{_≡_, refl, sym, ap, _∙_}
+use mathlib.Core.Path.{_≡_, refl, sym, ap, ap₂, _∙_, subst, fun-ext}
 use mathlib.Core.Logic.{_≢_}
 use mathlib.Core.Bool.{Bool, true, false, cond, not, _&&_, _||_, true≢false}
 use Prim.Native.Nat.{ℕ, _≤_}
@@ -13,7 +13,7 @@ use Rattle.ioctl_table.specs.Refusal.{errnoOf}
 use Rattle.ioctl_table.specs.Table.{requestOf, argumentSize}
 use Rattle.ioctl_table.specs.declared.refusals.Refusal.the-variants.{WrongType, WrongMemory, Streaming}
 use Rattle.ioctl_table.specs.declared.table.Call.{Call as Asked}
-use Rattle.ioctl_table.specs.declared.table.Call.the-variants.{Unknown, Querycap, EnumFmt, GFmt, SFmt, TryFmt, Reqbufs, Querybuf, Qbuf, Dqbuf, Streamon, Streamoff, GCtrl, SCtrl, Queryctrl, Cropcap, GCrop, SCrop}
+use Rattle.ioctl_table.specs.declared.table.Call.the-variants.{Unknown, Querycap, EnumFmt, GFmt, SFmt, TryFmt, Reqbufs, Querybuf, Qbuf, Dqbuf, Streamon, Streamoff, GCtrl, SCtrl, Queryctrl, Cropcap, GCrop, SCrop, GSlicedVbiCap}
 use Rattle.sheet_copy.specs.Copy.{keptOf}
 use Rattle.sheet_copy.proofs.Copies.{kept-format-count, kept-control-count, kept-id, kept-control}
 use Rattle.sheet_rules.specs.Rules.{goodSheet}
@@ -33,25 +33,30 @@ use Rattle.buffer_replies.proofs.Lengths.{buffers-length, buffers-count}
 use Rattle.device_state.specs.State.{State, closedState}
 use Rattle.device_state.specs.Answers.{Answer, refused}
 use Rattle.buffer_calls.specs.Buffers.{streamAnswer, stepped, requestReply, reqbufsOf}
-use Rattle.request_topics.specs.Request.{byStream, streamCall, callAnswer}
+use Rattle.request_topics.specs.Request.{byVideo, byCaptions, streamCall, callAnswer}
 use Rattle.device_opening.specs.Opening.{openedOf}
-use Rattle.device_film.specs.Film.{takenOf, takenMemory}
+use Rattle.stream_words.specs.Stream.{Stream}
+use Rattle.buffer_calls.specs.Buffers.{StreamAnswer}
+use Rattle.device_film.specs.Film.{takenOf, takenMemory, frameSize}
 use Rattle.stream_history.specs.Paper.{Pair, Paper, indexOf}
 use Rattle.stream_history.proofs.Tied.{entry}
-use Rattle.claims.specs.Calls.{Call, arrivalTime}
+use Rattle.claims.specs.Calls.{Kind, typeOf, Call, arrivalTime}
 use Rattle.claims.specs.Calls.Call.{request, arrival}
 use Rattle.claims.specs.Machine.{NoTrace}
-use Rattle.claims.specs.Words.{paperIn}
-use Rattle.claims.specs.Table.{firstNumber, queuedOn, tests, requestTests, arrivalTests, refusedBy, arrivedOn, arrivalNumber}
+use Rattle.claims.specs.Words.{paperIn, papersIn}
+use Rattle.claims.specs.Device.{lentTo, keptOn, streamOf}
+use Rattle.claims.specs.Desk.{deskIn}
+use Rattle.claims.specs.Table.{firstNumber, kindOf, paperAt, queuedOn, tests, requestTests, arrivalTests, refusedBy, arrivedOn, arrivalNumber}
 use Rattle.claims.specs.Meets.{Demand1}
-use Rattle.claims.proofs.Boxes.{Box, asks, lent, paperAfter, boxAfter, ours}
-use Rattle.claims.proofs.Checks.{checks, requestChecks, arrivalChecks, arrivedBy}
-use Rattle.claims.proofs.Steps.{Safe, whole-reply}
-use Rattle.claims.proofs.Open.{whole-short}
+use Rattle.claims.proofs.Boxes.{Box, asks, paperAfter, boxAfter, ours}
+use Rattle.claims.proofs.Checks.{sizeOf, checks, requestChecks, arrivalChecks, arrivedBy}
+use Rattle.claims.proofs.Steps.{byKind, Safe, whole-reply, kind-argument, one-not-six}
 use Rattle.claims.proofs.Arrivals.{taken-is, written-refused, opening-number}
 use Rattle.claims.proofs.Honest.{honest-request}
 use Rattle.claims.proofs.Formats.{Reached, reached}
 use Rattle.claims.proofs.Table.{request-table}
+use Rattle.claims.proofs.Services.{same-services}
+use Rattle.claims.proofs.Shut.{openedBy}
 use Rattle.claims.proofs.Lists.{Since, since, same-paper, no-trace}
 
 -- ---- the sheet's copy
@@ -80,33 +85,33 @@ unfolding any
 any-entry k [] = refl
 any-entry k (x ∷ o) = ap (λ (b : Bool). cond (eqb (x .index) k) true b) (any-entry k o)
 
-module _ (b : Box) (p : Paper) (safe : Safe b p) where
-  on-queues : (k : ℕ) → (isIncoming (b .state .stream .queues) k || isOutgoing (b .state .stream .queues) k) ≡ queuedOn p k
+module _ (k : Kind) (b : Box) (p : Paper) (safe : Safe k b p) where
+  on-queues : (i : ℕ) → (isIncoming (streamOf k (b .state) .queues) i || isOutgoing (streamOf k (b .state) .queues) i) ≡ queuedOn p i
   unfolding isIncoming isOutgoing
-  on-queues k = rw (safe .kept .tied .holds .ins, safe .kept .tied .holds .outs, any-entry k (p .outgoing))
+  on-queues i = rw (safe .kept .tied .holds .ins, safe .kept .tied .holds .outs, any-entry i (p .outgoing))
 
-  some-outgoing : length (b .state .stream .queues .outgoing) ≡ length (p .outgoing)
+  some-outgoing : length (streamOf k (b .state) .queues .outgoing) ≡ length (p .outgoing)
   some-outgoing = rw (safe .kept .tied .holds .outs) (length-map (p .outgoing) entry)
 
 -- ---- the tests
 
-module _ (s : List ℕ) (fits : length s ≤ 2688) (d : State) (p : Paper) (a : List ℕ)
-    (granted : d .stream .queues .granted ≡ p .granted)
-    (running : streaming (d .stream) ≡ p .running)
-    (queued : (k : ℕ) → (isIncoming (d .stream .queues) k || isOutgoing (d .stream .queues) k) ≡ queuedOn p k)
-    (outgoing : length (d .stream .queues .outgoing) ≡ length (p .outgoing)) where
-  same-tests : (call : Asked) → checks call (keptOf s) d a ≡ tests call s p a
+module _ (s : List ℕ) (fits : length s ≤ 2688) (d : State) (P : Kind → Paper) (a : List ℕ)
+    (granted : (k : Kind) → streamOf k d .queues .granted ≡ P k .granted)
+    (running : (k : Kind) → streaming (streamOf k d) ≡ P k .running)
+    (queued : (k : Kind) (i : ℕ) → (isIncoming (streamOf k d .queues) i || isOutgoing (streamOf k d .queues) i) ≡ queuedOn (P k) i)
+    (outgoing : (k : Kind) → length (streamOf k d .queues .outgoing) ≡ length (P k .outgoing)) where
+  same-tests : (call : Asked) → checks call (keptOf s) d a ≡ tests call s P a
   same-tests Unknown = refl
   same-tests Querycap = refl
   same-tests EnumFmt = rw (kept-format-count s fits)
   same-tests GFmt = refl
-  same-tests SFmt = rw granted
+  same-tests SFmt = rw (granted (kindOf (wordAt a 0)))
   same-tests TryFmt = refl
-  same-tests Reqbufs = rw running
-  same-tests Querybuf = rw granted
-  same-tests Qbuf = rw (queued (wordAt a 0), granted)
-  same-tests Dqbuf = rw (outgoing, granted, running)
-  same-tests Streamon = rw granted
+  same-tests Reqbufs = rw (running (kindOf (wordAt a 4)))
+  same-tests Querybuf = rw (granted (kindOf (wordAt a 4)))
+  same-tests Qbuf = rw (queued (kindOf (wordAt a 4)) (wordAt a 0), granted (kindOf (wordAt a 4)))
+  same-tests Dqbuf = rw (outgoing (kindOf (wordAt a 4)), granted (kindOf (wordAt a 4)), running (kindOf (wordAt a 4)))
+  same-tests Streamon = rw (granted (kindOf (wordAt a 0)))
   same-tests Streamoff = refl
   same-tests GCtrl = simp (kept-present s fits, kept-place s fits, kept-control s fits)
   same-tests SCtrl = simp (kept-present s fits, kept-place s fits, kept-control s fits)
@@ -114,34 +119,69 @@ module _ (s : List ℕ) (fits : length s ≤ 2688) (d : State) (p : Paper) (a : 
   same-tests Cropcap = refl
   same-tests GCrop = refl
   same-tests SCrop = refl
+  same-tests GSlicedVbiCap = refl
+
+-- ---- a call on a stream that is accepted
+
+-- it is the named stream's, whose type is the one named
+pub stream-accepted : (f : Stream → ℕ → ℕ → List ℕ → StreamAnswer) (at : ℕ) (d : State) (a : List ℕ) → streamCall f at d a .number ≡ 0
+    → (typeOf (kindOf (wordAt a at)) ≡ wordAt a at)
+    × (streamCall f at d a ≡ byKind (kindOf (wordAt a at)) d (f (streamOf (kindOf (wordAt a at)) d) (typeOf (kindOf (wordAt a at))) (sizeOf (kindOf (wordAt a at)) d) a))
+stream-accepted f at d a h = go (eqb (wordAt a at) 1) refl (eqb (wordAt a at) 6) refl h
+  where
+    go : (u : Bool) → eqb (wordAt a at) 1 ≡ u → (v : Bool) → eqb (wordAt a at) 6 ≡ v
+        → cond u (byVideo d (f (d .video) 1 (d .size) a)) (cond v (byCaptions d (f (d .captions) 6 (sizeOf Kind.captions d) a)) (refused WrongType d a)) .number ≡ 0
+        → (typeOf (cond v Kind.captions Kind.pictures) ≡ wordAt a at)
+        × (cond u (byVideo d (f (d .video) 1 (d .size) a)) (cond v (byCaptions d (f (d .captions) 6 (sizeOf Kind.captions d) a)) (refused WrongType d a))
+        ≡ byKind (cond v Kind.captions Kind.pictures) d (f (streamOf (cond v Kind.captions Kind.pictures) d) (typeOf (cond v Kind.captions Kind.pictures)) (sizeOf (cond v Kind.captions Kind.pictures) d) a))
+    go true e true g h = absurd (true≢false (sym g ∙ one-not-six (wordAt a at) e))
+    go true e false g h = (sym (eqb-true (wordAt a at) 1 e), refl)
+    go false e true g h = (sym (eqb-true (wordAt a at) 6 g), refl)
+    go false e false g h = absurd (omega (arith, h))
+
+-- what it leaves in its argument
+pub stream-argument : (f : Stream → ℕ → ℕ → List ℕ → StreamAnswer) (at : ℕ) (d : State) (a : List ℕ) → streamCall f at d a .number ≡ 0
+    → (f (streamOf (kindOf (wordAt a at)) d) (typeOf (kindOf (wordAt a at))) (sizeOf (kindOf (wordAt a at)) d) a .number ≡ 0)
+    × (streamCall f at d a .argument ≡ f (streamOf (kindOf (wordAt a at)) d) (typeOf (kindOf (wordAt a at))) (sizeOf (kindOf (wordAt a at)) d) a .argument)
+stream-argument f at d a h =
+    let k : Kind = kindOf (wordAt a at) in
+    let is = stream-accepted f at d a h .1 in
+    let r : StreamAnswer = f (streamOf k d) (typeOf k) (sizeOf k d) a in
+    (by-number k r ∙ ap (λ (z : Answer). z .number) (sym is) ∙ h, ap (λ (z : Answer). z .argument) is ∙ by-argument k r)
+  where
+    by-number : (k : Kind) (r : StreamAnswer) → r .number ≡ byKind k d r .number
+    by-number Kind.pictures r = refl
+    by-number Kind.captions r = refl
+
+    by-argument : (k : Kind) (r : StreamAnswer) → byKind k d r .argument ≡ r .argument
+    by-argument Kind.pictures r = refl
+    by-argument Kind.captions r = refl
 
 -- ---- what a buffer request answers
 
-pub reqbufs-answers : (d : State) (a : List ℕ) → length a ≡ 20 → streamCall reqbufsOf 4 d a .number ≡ 0
-    → streamCall reqbufsOf 4 d a .argument ≡ buffersReply 1 (grantOf (d .stream .length) (wordAt a 0) (d .size))
+pub reqbufs-answers : (x : Stream) (kind size : ℕ) (a : List ℕ) → length a ≡ 20 → reqbufsOf x kind size a .number ≡ 0
+    → reqbufsOf x kind size a .argument ≡ buffersReply kind (grantOf (x .length) (wordAt a 0) size)
 unfolding reqbufsOf bufferRequest
-reqbufs-answers d a l = go (not (eqb (wordAt a 4) 1)) (not (eqb (wordAt a 8) 1)) (streaming (d .stream) && not (eqb (wordAt a 0) 0))
+reqbufs-answers x kind size a l = go (not (eqb (wordAt a 8) 1)) (streaming x && not (eqb (wordAt a 0) 0))
   where
     g : ℕ
-    g = grantOf (d .stream .length) (wordAt a 0) (d .size)
+    g = grantOf (x .length) (wordAt a 0) size
 
     t : Bool → Step
-    t z = cond z (refuses Streaming (d .stream)) (answers (replies.Granted (grantOf (d .stream .length) (wordAt a 0) (d .size))) (stopped (d .stream) (grantOf (d .stream .length) (wordAt a 0) (d .size))))
+    t z = cond z (refuses Streaming x) (answers (replies.Granted (grantOf (x .length) (wordAt a 0) size)) (stopped x (grantOf (x .length) (wordAt a 0) size)))
 
-    r : Bool → Bool → Bool → Answer
-    r x y z = cond x (refused WrongType d a) (byStream d (cond y (streamAnswer (errnoOf WrongMemory) (d .stream) a) (stepped (t z) (requestReply (t z .reply) 1 a))))
+    r : Bool → Bool → StreamAnswer
+    r y z = cond y (streamAnswer (errnoOf WrongMemory) x a) (stepped (t z) (requestReply (t z .reply) kind a))
 
-    go : (x y z : Bool) → r x y z .number ≡ 0 → r x y z .argument ≡ buffersReply 1 (grantOf (d .stream .length) (wordAt a 0) (d .size))
-    go true y z h = absurd (omega (arith, h))
-    go false true z h = absurd (omega (arith, h))
-    go false false true h = absurd (omega (arith, h))
-    go false false false h = whole-reply a (buffersReply 1 g) 20 l (buffers-length 1 g)
+    go : (y z : Bool) → r y z .number ≡ 0 → r y z .argument ≡ buffersReply kind (grantOf (x .length) (wordAt a 0) size)
+    go true z h = absurd (omega (arith, h))
+    go false true h = absurd (omega (arith, h))
+    go false false h = whole-reply a (buffersReply kind g) 20 l (buffers-length kind g)
 
 -- ---- what an arrival is answered
 
-answers-same : (b : Box) (p : Paper) → Safe b p → (n : ℕ) (t : Time) → arrivedBy (b .state) n t ≡ arrivedOn p n t
-answers-same b p safe n t =
-    rw (whole-short n (b .state .size) t, safe .kept .tied .size, safe .kept .tied .running, safe .kept .tied .run, safe .kept .tied .holds .ins)
+answers-same : (k : Kind) (b : Box) (p : Paper) → Safe k b p → (f : List ℕ) (t : Time) → arrivedBy k (b .state) f t ≡ arrivedOn k p (b .state .services) f t
+answers-same k b p safe f t = rw (safe .kept .tied .size, safe .kept .tied .running, safe .kept .tied .run, safe .kept .tied .holds .ins)
 
 -- ---- from an opening
 
@@ -150,11 +190,11 @@ pub short : (s : List ℕ) → goodSheet s ≡ true → length s ≤ 2688
 short s good = omega (arith, fits-copy s good)
 
 -- the whole table
-table-told : (s : List ℕ) (b : Box) (p : Paper) (w : ℕ) (a : List ℕ) (n : ℕ) → goodSheet s ≡ true → n ≡ 0 → Safe b p → b .sheet ≡ keptOf s
-    → requestChecks (b .sheet) (b .state) w a ≡ requestTests n s p w a
-table-told s b p w a n good z safe sheet =
-    rw (sheet, safe .ready, z)
-    (cc (same-tests s (short s good) (b .state) p a (safe .kept .tied .holds .granted) (safe .kept .tied .running) (on-queues b p safe) (some-outgoing b p safe) (requestOf w .call)))
+table-told : (s : List ℕ) (b : Box) (P : Kind → Paper) (w : ℕ) (a : List ℕ) (n : ℕ) → goodSheet s ≡ true → n ≡ 0 → ((k : Kind) → Safe k b (P k)) → b .sheet ≡ keptOf s
+    → requestChecks (b .sheet) (b .state) w a ≡ requestTests n s P w a
+table-told s b P w a n good z safe sheet =
+    rw (sheet, safe Kind.pictures .ready, z)
+    (cc (same-tests s (short s good) (b .state) P a (λ k. safe k .kept .tied .holds .granted) (λ k. safe k .kept .tied .running) (λ k. on-queues k b (P k) (safe k)) (λ k. some-outgoing k b (P k) (safe k)) (requestOf w .call)))
 
 -- a closed device
 pub closed-ready : (d : State) → d ≡ closedState → d .ready ≡ 0
@@ -166,38 +206,64 @@ pub never : (d : State) {A : Type 0} → d ≡ closedState → eqb (d .ready) 0 
 never d e r = absurd (true≢false (sym (ap (λ (n : ℕ). eqb n 0) (closed-ready d e)) ∙ r))
 
 -- what is lent is as long as what the call names
-pub lent-long : (b : Box) (other : List ℕ) → length (lent b other) ≡ length other
-lent-long b other = go (eqb (length other) (length (b .memory))) refl
+pub lent-long : (m : Kind → List ℕ) (t : ℕ) (other : List ℕ) → length (lentTo m t other) ≡ length other
+lent-long m t other = go (eqb (length other) (length (m (kindOf t)))) refl
   where
-    go : (x : Bool) → eqb (length other) (length (b .memory)) ≡ x → length (cond x (b .memory) other) ≡ length other
-    go true e = sym (eqb-true (length other) (length (b .memory)) e)
+    go : (x : Bool) → eqb (length other) (length (m (kindOf t))) ≡ x → length (cond x (m (kindOf t)) other) ≡ length other
+    go true e = sym (eqb-true (length other) (length (m (kindOf t))) e)
     go false e = refl
 
-module _ (s m : List ℕ) where
-  requests-told : (cs : List Call) (w : ℕ) (a : List ℕ) → ours s m .request cs w a .number ≡ firstNumber (requestTests (ours s m .opening) s (paperIn s (ours s m) cs) w a)
+-- the stream of a type is the one that it names
+pub kind-named : (k : Kind) (t : ℕ) → eqb t (typeOf k) ≡ true → kindOf t ≡ k
+kind-named k t e = ap kindOf (eqb-true t (typeOf k) e) ∙ back k
+  where
+    back : (j : Kind) → kindOf (typeOf j) ≡ j
+    back Kind.pictures = refl
+    back Kind.captions = refl
+
+-- what is given back as it was leaves every memory
+unwritten : (m : Kind → List ℕ) (t : ℕ) (other : List ℕ) → keptOn m t other (lentTo m t other) ≡ m
+unwritten m t other = fun-ext λ k. go k (eqb t (typeOf k)) refl (eqb (length other) (length (m k))) refl
+  where
+    go : (k : Kind) (x : Bool) → eqb t (typeOf k) ≡ x → (y : Bool) → eqb (length other) (length (m k)) ≡ y → cond x (cond y (lentTo m t other) (m k)) (m k) ≡ m k
+    go k false e y f = refl
+    go k true e false f = refl
+    go k true e true f = ap (λ (j : Kind). cond (eqb (length other) (length (m j))) (m j) other) (kind-named k t e) ∙ ap (λ (y : Bool). cond y (m k) other) f
+
+module _ (s : List ℕ) (m : Kind → List ℕ) where
+  -- the papers of both
+  pub same-papers : (cs : List Call) → papersIn s (ours s m) cs ≡ (λ k. paperAfter s m k cs)
+  same-papers cs = fun-ext λ k. same-paper s m k cs
+
+  requests-told : (cs : List Call) (w : ℕ) (a : List ℕ) → ours s m .request cs w a .number ≡ firstNumber (requestTests (ours s m .opening) s (papersIn s (ours s m) cs) w a)
   requests-told cs w a = request-table (boxAfter s m cs .sheet) (boxAfter s m cs .state) a w ∙ go (since s m cs)
     where
       go : Since s m cs → firstNumber (requestChecks (boxAfter s m cs .sheet) (boxAfter s m cs .state) w a)
-          ≡ firstNumber (requestTests (ours s m .opening) s (paperIn s (ours s m) cs) w a)
+          ≡ firstNumber (requestTests (ours s m .opening) s (papersIn s (ours s m) cs) w a)
       go (Since.good g n t) =
-          ap firstNumber (table-told s (boxAfter s m cs) (paperAfter s m cs) w a (openedOf s (length m) .number) g n (t .safe) (t .sheet))
-          ∙ ap (λ (p : Paper). firstNumber (requestTests (openedOf s (length m) .number) s p w a)) (sym (same-paper s m cs))
+          ap firstNumber (table-told s (boxAfter s m cs) (λ k. paperAfter s m k cs) w a (openedBy s m .number) g n (λ k. t k .safe) (t Kind.pictures .sheet))
+          ∙ ap (λ (P : Kind → Paper). firstNumber (requestTests (openedBy s m .number) s P w a)) (sym (same-papers cs))
       go (Since.bad n d p) = rw (n, closed-ready (boxAfter s m cs .state) d)
 
-  arrivals-told : (cs : List Call) (f : List ℕ) (x y : ℕ) (other : List ℕ)
-      → ours s m .arrival cs f x y other
-      ≡ refusedBy (arrivalTests (ours s m .opening) (length m) (paperIn s (ours s m) cs) (length other)) (arrivedOn (paperIn s (ours s m) cs) (length f) (arrivalTime x y))
-  arrivals-told cs f x y other =
-      ap (λ (n : ℕ). takenOf (boxAfter s m cs .state) n (length f) (arrivalTime x y) .arrival) (lent-long (boxAfter s m cs) other)
-      ∙ taken-is (boxAfter s m cs .state) (length other) (length f) (arrivalTime x y) .0
+  arrivals-told : (cs : List Call) (t : ℕ) (f : List ℕ) (x y : ℕ) (other : List ℕ)
+      → ours s m .arrival cs t f x y other
+      ≡ refusedBy (arrivalTests (ours s m .opening) (λ k. length (m k)) (papersIn s (ours s m) cs) t (length other))
+      (arrivedOn (kindOf t) (papersIn s (ours s m) cs (kindOf t)) (deskIn s (ours s m) cs .services) f (arrivalTime x y))
+  arrivals-told cs t f x y other =
+      ap (λ (n : ℕ). takenOf (boxAfter s m cs .state) t n f (arrivalTime x y) .arrival) (lent-long (boxAfter s m cs .memory) t other)
+      ∙ taken-is (boxAfter s m cs .state) t (length other) f (arrivalTime x y) .0
       ∙ go (since s m cs)
-      ∙ ap (λ (p : Paper). refusedBy (arrivalTests (openedOf s (length m) .number) (length m) p (length other)) (arrivedOn p (length f) (arrivalTime x y))) (sym (same-paper s m cs))
+      ∙ ap₂ (λ (P : Kind → Paper) (l : List ℕ). refusedBy (arrivalTests (openedBy s m .number) (λ k. length (m k)) P t (length other)) (arrivedOn (kindOf t) (P (kindOf t)) l f (arrivalTime x y)))
+      (sym (same-papers cs)) (sym (same-services s m cs))
     where
-      go : Since s m cs → refusedBy (arrivalChecks (boxAfter s m cs .state) (length other)) (arrivedBy (boxAfter s m cs .state) (length f) (arrivalTime x y))
-          ≡ refusedBy (arrivalTests (openedOf s (length m) .number) (length m) (paperAfter s m cs) (length other)) (arrivedOn (paperAfter s m cs) (length f) (arrivalTime x y))
-      go (Since.good g n t) =
-          let long : boxAfter s m cs .state .stream .length ≡ length m = t .safe .kept .tied .noted ∙ t .long in
-          rw (answers-same (boxAfter s m cs) (paperAfter s m cs) (t .safe) (length f) (arrivalTime x y), t .safe .ready, n, long, t .safe .kept .tied .running, t .safe .kept .tied .run)
+      k : Kind
+      k = kindOf t
+
+      go : Since s m cs → refusedBy (arrivalChecks (boxAfter s m cs .state) t (length other)) (arrivedBy (kindOf t) (boxAfter s m cs .state) f (arrivalTime x y))
+          ≡ refusedBy (arrivalTests (openedBy s m .number) (λ k. length (m k)) (λ k. paperAfter s m k cs) t (length other)) (arrivedOn (kindOf t) (paperAfter s m (kindOf t) cs) (boxAfter s m cs .state .services) f (arrivalTime x y))
+      go (Since.good g n u) =
+          let long : streamOf (kindOf t) (boxAfter s m cs .state) .length ≡ length (m (kindOf t)) = u (kindOf t) .safe .kept .tied .noted ∙ u (kindOf t) .long in
+          rw (answers-same (kindOf t) (boxAfter s m cs) (paperAfter s m (kindOf t) cs) (u (kindOf t) .safe) f (arrivalTime x y), u Kind.pictures .safe .ready, n, long, u (kindOf t) .safe .kept .tied .running, u (kindOf t) .safe .kept .tied .run)
       go (Since.bad n d p) = rw (n, closed-ready (boxAfter s m cs .state) d)
 
   -- a refusal leaves the box as it was
@@ -207,49 +273,42 @@ module _ (s m : List ℕ) where
       let (x, y) = honest-request (b .state) a (b .sheet) w .unchanged h in
       (y, no-trace s m cs (request w a) (ap (λ (d : State). record { sheet = b .sheet; state = d; memory = b .memory }) x))
 
-  arrivals-kept : (cs : List Call) (f : List ℕ) (x y : ℕ) (other : List ℕ) → arrivalNumber (ours s m .arrival cs f x y other) ≢ 0 → NoTrace (ours s m) cs (arrival f x y other)
+  arrivals-kept : (cs : List Call) (t : ℕ) (f : List ℕ) (x y : ℕ) (other : List ℕ) → arrivalNumber (ours s m .arrival cs t f x y other) ≢ 0 → NoTrace (ours s m) cs (arrival t f x y other)
   unfolding takenMemory
-  arrivals-kept cs f x y other h =
-      no-trace s m cs (arrival f x y other) (go (eqb (length other) (length (b .memory))) h)
-    where
-      b : Box
-      b = boxAfter s m cs
-
-      answer : Bool → Arrival
-      answer v = takenOf (b .state) (length (cond v (b .memory) other)) (length f) (arrivalTime x y) .arrival
-
-      go : (v : Bool) → arrivalNumber (answer v) ≢ 0
-          → record {
-            sheet = b .sheet;
-            state = takenOf (b .state) (length (cond v (b .memory) other)) (length f) (arrivalTime x y) .state;
-            memory = cond v (writtenBy (answer true) (b .state .size) (b .memory) f) (b .memory);
-          } ≡ b
-      go true h = rw (taken-is (b .state) (length (b .memory)) (length f) (arrivalTime x y) .1 h, written-refused (answer true) (b .state .size) (b .memory) f h)
-      go false h = rw (taken-is (b .state) (length other) (length f) (arrivalTime x y) .1 h)
+  arrivals-kept cs t f x y other h =
+      let b : Box = boxAfter s m cs in
+      let l : List ℕ = lentTo (b .memory) t other in
+      let u : Arrival = takenOf (b .state) t (length l) f (arrivalTime x y) .arrival in
+      no-trace s m cs (arrival t f x y other)
+      (ap₂ (λ (d : State) (z : Kind → List ℕ). record { sheet = b .sheet; state = d; memory = z }) (taken-is (b .state) t (length l) f (arrivalTime x y) .1 h)
+      (ap (keptOn (b .memory) t other) (written-refused u (frameSize (b .state) t) l f h) ∙ unwritten (b .memory) t other))
 
   grants-told : (cs : List Call) (w : ℕ) (a : List ℕ) → requestOf w .call ≡ Reqbufs → ours s m .request cs w a .number ≡ 0
-      → wordAt (ours s m .request cs w a .argument) 0 ≡ grantOf (length m) (wordAt a 0) (paperIn s (ours s m) cs .size)
+      → wordAt (ours s m .request cs w a .argument) 0 ≡ grantOf (length (m (kindOf (wordAt a 4)))) (wordAt a 0) (paperAt (papersIn s (ours s m) cs) a 4 .size)
   grants-told cs w a e h =
       let b : Box = boxAfter s m cs in
+      let k : Kind = kindOf (wordAt a 4) in
       let q : Reached (b .sheet) (b .state) w a = reached (b .sheet) (b .state) w a h in
       let is : asks b w a ≡ streamCall reqbufsOf 4 (b .state) a = q .is ∙ ap (λ (call : Asked). callAnswer call (b .sheet) (b .state) a) e in
-      let g : ℕ = grantOf (b .state .stream .length) (wordAt a 0) (b .state .size) in
+      let (n, v) = stream-argument reqbufsOf 4 (b .state) a (ap (λ (r : Answer). r .number) (sym is) ∙ h) in
+      let g : ℕ = grantOf (streamOf k (b .state) .length) (wordAt a 0) (sizeOf k (b .state)) in
       ap (λ (r : Answer). wordAt (r .argument) 0) is
-      ∙ ap (λ (v : List ℕ). wordAt v 0) (reqbufs-answers (b .state) a (q .long ∙ ap argumentSize e) (ap (λ (r : Answer). r .number) (sym is) ∙ h))
-      ∙ buffers-count 1 g (omega (arith, grant-few (b .state .stream .length) (wordAt a 0) (b .state .size)))
+      ∙ ap (λ (l : List ℕ). wordAt l 0) (v ∙ reqbufs-answers (streamOf k (b .state)) (typeOf k) (sizeOf k (b .state)) a (q .long ∙ ap argumentSize e) n)
+      ∙ buffers-count (typeOf k) g (omega (arith, grant-few (streamOf k (b .state) .length) (wordAt a 0) (sizeOf k (b .state))))
       ∙ go (since s m cs) (q .ready)
-      ∙ ap (λ (p : Paper). grantOf (length m) (wordAt a 0) (p .size)) (sym (same-paper s m cs))
+      ∙ ap (λ (P : Kind → Paper). grantOf (length (m k)) (wordAt a 0) (P k .size)) (sym (same-papers cs))
     where
       go : Since s m cs → eqb (boxAfter s m cs .state .ready) 0 ≡ false
-          → grantOf (boxAfter s m cs .state .stream .length) (wordAt a 0) (boxAfter s m cs .state .size) ≡ grantOf (length m) (wordAt a 0) (paperAfter s m cs .size)
+          → grantOf (streamOf (kindOf (wordAt a 4)) (boxAfter s m cs .state) .length) (wordAt a 0) (sizeOf (kindOf (wordAt a 4)) (boxAfter s m cs .state))
+          ≡ grantOf (length (m (kindOf (wordAt a 4)))) (wordAt a 0) (paperAfter s m (kindOf (wordAt a 4)) cs .size)
       go (Since.good g n t) r =
-          let long : boxAfter s m cs .state .stream .length ≡ length m = t .safe .kept .tied .noted ∙ t .long in
-          rw (long, t .safe .kept .tied .size)
+          let u = t (kindOf (wordAt a 4)) in
+          ap₂ (λ (z y : ℕ). grantOf z (wordAt a 0) y) (u .safe .kept .tied .noted ∙ u .long) (u .safe .kept .tied .size)
       go (Since.bad n d p) r = never (boxAfter s m cs .state) d r
 
   pub told-1 : Demand1 s m (ours s m)
   told-1 = record {
-    opening = opening-number s (length m);
+    opening = opening-number s (length (m Kind.pictures)) (length (m Kind.captions));
     requests = requests-told;
     arrivals = arrivals-told;
     kept = requests-kept;

@@ -1,17 +1,18 @@
 -- Demand 2 of our device.
-use mathlib.Core.Path.{_≡_, refl, sym, ap, _∙_}
+use mathlib.Core.Path.{_≡_, refl, sym, ap, _∙_, subst}
 use mathlib.Core.Logic.{_≢_}
-use mathlib.Core.Bool.{Bool, true, false, cond, not, _||_}
-use Prim.Native.Nat.{ℕ, _*_, _≤_, _<_}
+use mathlib.Core.Bool.{Bool, true, false, cond, not, _&&_, _||_}
+use Prim.Native.Nat.{ℕ, _+_, _*_, _/_, _%_, _≤_, _<_}
 use native.Mathlib.Omega.{arith}
 use native.Mathlib.Nat.{le-of-mul-le-mul-right}
 use borrow.Author.Tests.{eqb-true}
 use lib.Dec.{eqb}
 use mathlib.Core.List.{List}
-use lib.ListN.{length}
+use lib.ListN.{length, getD}
 use lib.Seq.{sets}
 use Rattle.wire_read.specs.Words.{wordAt}
 use Rattle.wire_read.proofs.Stores.{sets-all}
+use Rattle.ioctl_table.specs.Refusal.{errnoOf}
 use Rattle.ioctl_table.specs.Table.{argumentSize, requestOf}
 use Rattle.ioctl_table.specs.declared.table.Call.{Call as Asked}
 use Rattle.ioctl_table.specs.declared.table.Call.the-variants.{SFmt, TryFmt}
@@ -34,16 +35,24 @@ use Rattle.negotiation_rules.specs.Negotiation.{offered, offersAmong, chosenCod
 use Rattle.negotiation_rules.specs.Answer.{pictureWords}
 use Rattle.negotiation_rules.proofs.Good.{offered-all, width-within, height-within, chosen-offered, code-kept}
 use Rattle.negotiation_rules.proofs.Reply.{reply-length, reply-word}
+use Rattle.stream_words.proofs.Tabs.{tab-get}
+use Rattle.service_rules.specs.Services.{Each, has, offers}
+use Rattle.service_rules.specs.Negotiation.{askedAt, fittingAt}
+use Rattle.service_rules.proofs.Laws.{all-that-fit, answered-at}
+use Rattle.service_replies.specs.Halves.{halfAt}
+use Rattle.service_replies.specs.Services.{linesAt, askedServices, servicesReply}
+use Rattle.service_replies.proofs.Reply.{services-length, told-lines, told-union, told-size, asked-length, asked-fit}
 use Rattle.device_state.specs.State.{State, withFormat}
 use Rattle.device_state.specs.Answers.{Answer, done, refused}
 use Rattle.negotiation_calls.specs.Negotiations.{toldFormat, sFmtOf, tryFmtOf}
-use Rattle.request_topics.specs.Request.{callAnswer, requestAnswer}
-use Rattle.claims.specs.Calls.{Call}
+use Rattle.service_calls.specs.Services.{servicesAnswer, sServicesOf, tryServicesOf}
+use Rattle.request_topics.specs.Request.{byServices, callAnswer, requestAnswer}
+use Rattle.claims.specs.Calls.{Kind, Call}
 use Rattle.claims.specs.Calls.Call.{request}
 use Rattle.claims.specs.Machine.{Given, more}
-use Rattle.claims.specs.Meets.{Nearest, Offered, Chosen, Demand2}
+use Rattle.claims.specs.Meets.{Nearest, Offered, Chosen, Fitting, Demand2}
 use Rattle.claims.proofs.Boxes.{Box, asks, next, boxAfter, ours}
-use Rattle.claims.proofs.Formats.{Reached, reached, passed, try-stays, try-answers, got-set}
+use Rattle.claims.proofs.Formats.{Reached, reached, try-stays, try-pictures, try-captions, got-set}
 use Rattle.claims.proofs.Lists.{Since, since, one-more, no-trace}
 use Rattle.claims.proofs.Told.{short, never}
 
@@ -54,32 +63,43 @@ given r = record { number = r .number; argument = r .argument }
 
 same-given : (s : List ℕ) (d : State) (t u : ℕ) (a : List ℕ) → requestOf t .call ≡ TryFmt → requestOf u .call ≡ SFmt
     → requestAnswer s d u a .number ≢ 16 → given (requestAnswer s d t a) ≡ given (requestAnswer s d u a)
-unfolding requestAnswer requestOf tryFmtOf sFmtOf
+unfolding requestAnswer requestOf tryFmtOf sFmtOf tryServicesOf sServicesOf
 same-given s d t u a et eu h =
     ap (λ (call : Asked). given (at call)) et
-    ∙ go (eqb (d .ready) 0) (eqb (length a) 204) (eqb (wordAt a 0) 1) (eqb (d .stream .queues .granted) 0) (λ e. h (ap (λ (call : Asked). at call .number) eu ∙ e))
+    ∙ go (eqb (d .ready) 0) (eqb (length a) 204) (eqb (wordAt a 0) 1) (eqb (wordAt a 0) 6) (eqb (d .video .queues .granted) 0) (eqb (d .captions .queues .granted) 0)
+    (λ e. h (ap (λ (call : Asked). at call .number) eu ∙ e))
     ∙ sym (ap (λ (call : Asked). given (at call)) eu)
   where
     at : Asked → Answer
     at call = cond (eqb (d .ready) 0) (refused Closed d a) (cond (eqb (argumentSize call) 0) (refused UnknownWord d a)
         (cond (not (eqb (length a) (argumentSize call))) (refused ArgumentLength d a) (callAnswer call s d a)))
 
-    f : List ℕ
-    f = sets a 0 (toldFormat s (negotiated s (askedFormat a)))
+    pictures : List ℕ
+    pictures = sets a 0 (toldFormat s (negotiated s (askedFormat a)))
 
-    tried : Bool → Bool → Bool → Answer
-    tried x y z = cond x (refused Closed d a) (cond (not y) (refused ArgumentLength d a) (cond (not z) (refused WrongType d a) (done d f)))
+    captions : List ℕ
+    captions = sets a 0 (servicesReply 6 (askedServices a))
 
-    set : Bool → Bool → Bool → Bool → Answer
-    set x y z g = cond x (refused Closed d a) (cond (not y) (refused ArgumentLength d a) (cond (not z) (refused WrongType d a)
-        (cond (not g) (refused BuffersExist d a) (done (withFormat s d (negotiated s (askedFormat a))) f))))
+    -- closed, of another length, of another type; then either call
+    by : Bool → Bool → Bool → Bool → Answer → Answer → Answer
+    by x y z v p c = cond x (refused Closed d a) (cond (not y) (refused ArgumentLength d a) (cond z p (cond v c (refused WrongType d a))))
 
-    go : (x y z g : Bool) → set x y z g .number ≢ 16 → given (tried x y z) ≡ given (set x y z g)
-    go true y z g h = refl
-    go false false z g h = refl
-    go false true false g h = refl
-    go false true true true h = refl
-    go false true true false h = absurd (h refl)
+    tried : Bool → Bool → Bool → Bool → Answer
+    tried x y z v = by x y z v (done d pictures) (done d captions)
+
+    set : Bool → Bool → Bool → Bool → Bool → Bool → Answer
+    set x y z v g i =
+        by x y z v (cond (not g) (refused BuffersExist d a) (done (withFormat s d (negotiated s (askedFormat a))) pictures))
+        (byServices d (cond (not i) (servicesAnswer (errnoOf BuffersExist) (d .services) a) (servicesAnswer 0 (askedServices a) captions)))
+
+    go : (x y z v g i : Bool) → set x y z v g i .number ≢ 16 → given (tried x y z v) ≡ given (set x y z v g i)
+    go true y z v g i h = refl
+    go false false z v g i h = refl
+    go false true true v true i h = refl
+    go false true true v false i h = absurd (h refl)
+    go false true false true g true h = refl
+    go false true false true g false h = absurd (h refl)
+    go false true false false g i h = refl
 
 -- ---- nearest
 
@@ -153,56 +173,84 @@ pub kept-told : (s : List ℕ) → length s ≤ 2688 → (f : Format) → toldFo
 kept-told s fits f = rw (kept-alignment s fits)
 
 -- an accepted TRY_FMT answers what was negotiated, all over its argument
-tried-answers : (s : List ℕ) (d : State) (t : ℕ) (a : List ℕ) → requestOf t .call ≡ TryFmt → requestAnswer s d t a .number ≡ 0
-    → (eqb (d .ready) 0 ≡ false) × (requestAnswer s d t a .argument ≡ toldFormat s (negotiated s (askedFormat a)))
-unfolding tryFmtOf
-tried-answers s d t a e h =
-    let q : Reached s d t a = reached s d t a h in
-    let is : requestAnswer s d t a ≡ tryFmtOf s d a = q .is ∙ ap (λ (call : Asked). callAnswer call s d a) e in
-    let f : List ℕ = toldFormat s (negotiated s (askedFormat a)) in
-    let ok : not (eqb (wordAt a 0) 1) ≡ false = passed (not (eqb (wordAt a 0) 1)) WrongType d a (done d (sets a 0 f)) (ap (λ (r : Answer). r .number) (sym is) ∙ h) in
-    (q .ready, ap (λ (r : Answer). r .argument) (is ∙ try-answers s d a ok) ∙ sets-all f a (q .long ∙ ap argumentSize e ∙ sym (reply-length 1 (negotiated s (askedFormat a)) _ _)))
-
-module _ (s m : List ℕ) (cs : List Call) (t : ℕ) (a : List ℕ) (e : requestOf t .call ≡ TryFmt) (h : ours s m .request cs t a .number ≡ 0) where
-  -- the sheet was good, and the answer is what it makes of the question
-  tried : (goodSheet s ≡ true) × (ours s m .request cs t a .argument ≡ toldFormat s (negotiated s (askedFormat a)))
-  tried = go (since s m cs) (tried-answers (boxAfter s m cs .sheet) (boxAfter s m cs .state) t a e h)
-    where
-      b : Box
-      b = boxAfter s m cs
-
-      go : Since s m cs → (eqb (b .state .ready) 0 ≡ false) × (asks b t a .argument ≡ toldFormat (b .sheet) (negotiated (b .sheet) (askedFormat a)))
-          → (goodSheet s ≡ true) × (asks b t a .argument ≡ toldFormat s (negotiated s (askedFormat a)))
-      go (Since.good g n k) (r, q) = (
-        g,
-        q ∙ ap (λ (z : List ℕ). toldFormat z (negotiated z (askedFormat a))) (k .sheet)
-            ∙ kept-told s (short s g) (negotiated (keptOf s) (askedFormat a)) ∙ ap (toldFormat s) (kept-negotiated s (short s g) (askedFormat a)),
+module _ (s : List ℕ) (d : State) (t : ℕ) (a : List ℕ) (e : requestOf t .call ≡ TryFmt) (h : requestAnswer s d t a .number ≡ 0) where
+  tried-over : (v : List ℕ) → length v ≡ 204 → callAnswer TryFmt s d a ≡ done d (sets a 0 v) → (eqb (d .ready) 0 ≡ false) × (requestAnswer s d t a .argument ≡ v)
+  tried-over v l is =
+      let q : Reached s d t a = reached s d t a h in (
+        q .ready,
+        ap (λ (r : Answer). r .argument) (q .is ∙ ap (λ (call : Asked). callAnswer call s d a) e ∙ is) ∙ sets-all v a (q .long ∙ ap argumentSize e ∙ sym l),
       )
-      go (Since.bad n d p) (r, q) = never (b .state) d r
 
-  widths-told : Nearest (widthsOf s) (wordAt a 4) (wordAt (ours s m .request cs t a .argument) 4)
-  unfolding askedFormat
-  widths-told = rw (tried .1, width-word s (tried .0) (askedFormat a)) (nearest-of (widthsOf s) (geometry s (tried .0) .widths) (wordAt a 4))
+  tried-pictures : wordAt a 0 ≡ 1 → (eqb (d .ready) 0 ≡ false) × (requestAnswer s d t a .argument ≡ toldFormat s (negotiated s (askedFormat a)))
+  tried-pictures o = tried-over _ (reply-length 1 (negotiated s (askedFormat a)) _ _) (try-pictures s d a o)
 
-  heights-told : Nearest (heightsOf s) (wordAt a 8) (wordAt (ours s m .request cs t a .argument) 8)
-  unfolding askedFormat
-  heights-told = rw (tried .1, height-word s (tried .0) (askedFormat a)) (nearest-of (heightsOf s) (geometry s (tried .0) .heights) (wordAt a 8))
+  tried-captions : wordAt a 0 ≡ 6 → requestAnswer s d t a .argument ≡ servicesReply 6 (askedServices a)
+  tried-captions o = tried-over _ (services-length 6 (askedServices a)) (try-captions s d a o) .1
 
-  codes-told : Chosen s (wordAt a 12) (wordAt (ours s m .request cs t a .argument) 12)
-  unfolding askedFormat
-  codes-told = rw (tried .1, code-word s (tried .0) (askedFormat a)) (chosen-of s (tried .0) (wordAt a 12))
+-- ---- the services that fit
 
-pub told-2 : (s m : List ℕ) → Demand2 s (ours s m)
+-- the set told for a line is the one that fits there
+line-fits : (a : List ℕ) (k : ℕ) → k < 48 → halfAt (servicesReply 6 (askedServices a)) (6 + 2 * k) ≡ fittingAt (halfAt a 4) (linesAt a 6) k
+unfolding askedServices
+line-fits a k h =
+    sym (tab-get (λ j. halfAt (servicesReply 6 (askedServices a)) (6 + 2 * j)) 48 k 0 h)
+    ∙ ap (λ (l : List ℕ). getD l k 0) (told-lines 6 (askedServices a) (asked-length a) (asked-fit a))
+    ∙ answered-at (halfAt a 4) (linesAt a 6) k h
+
+fitting-of : (a : List ℕ) → Fitting a (servicesReply 6 (askedServices a))
+fitting-of a = record {
+  lines = λ k h. subst (λ (v : ℕ). Each (λ s. has v (s .bit) ≡ (has (askedAt (halfAt a 4) (linesAt a 6) k) (s .bit) && offers s (k / 24) (k % 24)))) (sym (line-fits a k h)) (all-that-fit (halfAt a 4) (linesAt a 6) k);
+  union = told-union 6 (askedServices a) (asked-length a) (asked-fit a);
+  size = told-size 6 (askedServices a) (asked-length a) (asked-fit a);
+}
+
+-- ---- after any calls
+
+module _ (s : List ℕ) (m : Kind → List ℕ) (cs : List Call) (t : ℕ) (a : List ℕ) (e : requestOf t .call ≡ TryFmt) where
+  services-told : wordAt a 0 ≡ 6 → ours s m .request cs t a .number ≡ 0 → Fitting a (ours s m .request cs t a .argument)
+  services-told o h = subst (Fitting a) (sym (tried-captions (boxAfter s m cs .sheet) (boxAfter s m cs .state) t a e h o)) (fitting-of a)
+
+  module _ (o : wordAt a 0 ≡ 1) (h : ours s m .request cs t a .number ≡ 0) where
+    -- the sheet was good, and the answer is what it makes of the question
+    tried : (goodSheet s ≡ true) × (ours s m .request cs t a .argument ≡ toldFormat s (negotiated s (askedFormat a)))
+    tried = go (since s m cs) (tried-pictures (boxAfter s m cs .sheet) (boxAfter s m cs .state) t a e h o)
+      where
+        b : Box
+        b = boxAfter s m cs
+
+        go : Since s m cs → (eqb (b .state .ready) 0 ≡ false) × (asks b t a .argument ≡ toldFormat (b .sheet) (negotiated (b .sheet) (askedFormat a)))
+            → (goodSheet s ≡ true) × (asks b t a .argument ≡ toldFormat s (negotiated s (askedFormat a)))
+        go (Since.good g n k) (r, q) = (
+          g,
+          q ∙ ap (λ (z : List ℕ). toldFormat z (negotiated z (askedFormat a))) (k Kind.pictures .sheet)
+              ∙ kept-told s (short s g) (negotiated (keptOf s) (askedFormat a)) ∙ ap (toldFormat s) (kept-negotiated s (short s g) (askedFormat a)),
+        )
+        go (Since.bad n d p) (r, q) = never (b .state) d r
+
+    widths-told : Nearest (widthsOf s) (wordAt a 4) (wordAt (ours s m .request cs t a .argument) 4)
+    unfolding askedFormat
+    widths-told = rw (tried .1, width-word s (tried .0) (askedFormat a)) (nearest-of (widthsOf s) (geometry s (tried .0) .widths) (wordAt a 4))
+
+    heights-told : Nearest (heightsOf s) (wordAt a 8) (wordAt (ours s m .request cs t a .argument) 8)
+    unfolding askedFormat
+    heights-told = rw (tried .1, height-word s (tried .0) (askedFormat a)) (nearest-of (heightsOf s) (geometry s (tried .0) .heights) (wordAt a 8))
+
+    codes-told : Chosen s (wordAt a 12) (wordAt (ours s m .request cs t a .argument) 12)
+    unfolding askedFormat
+    codes-told = rw (tried .1, code-word s (tried .0) (askedFormat a)) (chosen-of s (tried .0) (wordAt a 12))
+
+pub told-2 : (s : List ℕ) (m : Kind → List ℕ) → Demand2 s (ours s m)
 told-2 s m = record {
   quiet = λ cs t a e.
       let b : Box = boxAfter s m cs in
       no-trace s m cs (request t a) (ap (λ (d : State). record { sheet = b .sheet; state = d; memory = b .memory }) (try-stays (b .sheet) (b .state) t a e));
   same = λ cs t u a et eu h. same-given (boxAfter s m cs .sheet) (boxAfter s m cs .state) t u a et eu h;
-  got = λ cs u g a b eu eg h k.
+  got = λ cs u g a b eu eg eq h k.
       let e : boxAfter s m (more cs (request u a)) ≡ next (boxAfter s m cs) (request u a) = one-more s m cs (request u a) in
       ap (λ (x : Box). asks x g b .argument) e
-      ∙ got-set (boxAfter s m cs .sheet) (boxAfter s m cs .state) u g a b eu eg h (ap (λ (x : Box). asks x g b .number) (sym e) ∙ k);
+      ∙ got-set (boxAfter s m cs .sheet) (boxAfter s m cs .state) u g a b eu eg eq h (ap (λ (x : Box). asks x g b .number) (sym e) ∙ k);
   widths = widths-told s m;
   heights = heights-told s m;
   codes = codes-told s m;
+  services = services-told s m;
 }

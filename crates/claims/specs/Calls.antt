@@ -5,11 +5,21 @@ use Rattle.wire_signed.specs.Signed.{signed}
 use Rattle.stream_words.specs.declared.Time.{Time}
 use Rattle.stream_arrival.specs.declared.Arrival.{Arrival}
 
--- A call: a request, any word and any argument; or an arrival, any bytes, the 32 bits of its seconds and of its microseconds, and
--- what is lent if not the picture memory.
+-- The streams.
+pub data Kind : Type 0 where
+  pictures : Kind
+  captions : Kind
+
+-- each has a type, by which requests and arrivals name it
+abbrev pub typeOf : Kind → ℕ
+typeOf Kind.pictures = 1
+typeOf Kind.captions = 6
+
+-- A call: a request, any word and any argument; or an arrival, any type, any bytes, the 32 bits of its seconds and of its microseconds, and
+-- what is lent if not the memory of the stream of that type.
 pub data Call : Type 0 where
   request : ℕ → List ℕ → Call
-  arrival : List ℕ → ℕ → ℕ → List ℕ → Call
+  arrival : ℕ → List ℕ → ℕ → ℕ → List ℕ → Call
 
 -- What is given back: of a request its number and its argument, of an arrival its answer.
 pub data Reply : Type 0 where

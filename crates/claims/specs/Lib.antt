@@ -1,8 +1,8 @@
 pub mod Calls
 pub mod Machine
-pub mod Words
 pub mod Table
 pub mod Desk
+pub mod Words
 pub mod Answers
 pub mod Waiting
 pub mod Meets

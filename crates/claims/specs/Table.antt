@@ -13,7 +13,7 @@ use Rattle.ioctl_table.specs.Table.{requestOf}
 use Rattle.ioctl_table.specs.declared.refusals.Refusal.{Refusal}
 use Rattle.ioctl_table.specs.declared.refusals.Refusal.the-variants.{ArgumentLength, MemoryLength, Closed, UnknownWord, WrongType, WrongMemory, NoSuchIndex, NoSuchControl, NotDequeued, NoBuffers, NotStreaming, ControlDisabled, ControlReadOnly, ControlIsButton, BuffersExist, Streaming, ControlGrabbed, OutOfRange, NothingOutgoing, RunFull, BadSheet, MemoryTooLong}
 use Rattle.ioctl_table.specs.declared.table.Call.{Call as Asked}
-use Rattle.ioctl_table.specs.declared.table.Call.the-variants.{Unknown, Querycap, EnumFmt, GFmt, SFmt, TryFmt, Reqbufs, Querybuf, Qbuf, Dqbuf, Streamon, Streamoff, GCtrl, SCtrl, Queryctrl, Cropcap, GCrop, SCrop}
+use Rattle.ioctl_table.specs.declared.table.Call.the-variants.{Unknown, Querycap, EnumFmt, GFmt, SFmt, TryFmt, Reqbufs, Querybuf, Qbuf, Dqbuf, Streamon, Streamoff, GCtrl, SCtrl, Queryctrl, Cropcap, GCrop, SCrop, GSlicedVbiCap}
 use Rattle.sheet_rules.specs.Rules.{goodSheet}
 use Rattle.sheet_contents.specs.Contents.{formatCount}
 use Rattle.sheet_records.specs.Records.{controlFields}
@@ -22,11 +22,13 @@ use Rattle.control_place_rules.specs.Find.{present, placeOf, queriedPlace}
 use Rattle.stream_words.specs.Lists.{any}
 use Rattle.stream_arrival.specs.Arrivals.{runLimit}
 use Rattle.picture_rules.specs.Picture.{wholePicture}
+use Rattle.caption_rules.specs.Caption.{wholeCaption}
 use Rattle.stream_arrival.specs.declared.Arrival.{Arrival}
 use Rattle.stream_arrival.specs.declared.Arrival.the-variants.{Refused, Ignored, Damaged, Dropped, Stored}
 use Rattle.stream_words.specs.declared.Time.{Time}
 use Rattle.device_opening.specs.Opening.{longestMemory}
 use Rattle.stream_history.specs.Paper.{Paper, indexOf}
+use Rattle.claims.specs.Calls.{Kind}
 
 -- A test, and the reason that is given where it holds.
 pub record Check : Type 0 where
@@ -41,11 +43,22 @@ abbrev pub firstNumber : List Check → ℕ
 firstNumber [] = 0
 firstNumber (c ∷ cs) = cond (c .holds) (errnoOf (c .why)) (firstNumber cs)
 
--- the type, or the memory, that the argument names at a place is not 1; with a second stream: is that of none, and the tests behind it are
--- made on the paper of the one named
+-- the stream that a type names, if it names one
+abbrev pub kindOf : ℕ → Kind
+kindOf t = cond (eqb t 6) Kind.captions Kind.pictures
+
+-- it names none
+abbrev pub noStream : ℕ → Bool
+noStream t = not (eqb t 1) && not (eqb t 6)
+
+-- the type that the argument names at a place is not that of a stream; or not that of pictures, where only those have the call
+abbrev pub wrongStream : List ℕ → ℕ → Check
+wrongStream a at = check (noStream (wordAt a at)) WrongType
+
 abbrev pub wrongType : List ℕ → ℕ → Check
 wrongType a at = check (not (eqb (wordAt a at) 1)) WrongType
 
+-- the memory that it names is not 1
 abbrev pub wrongMemory : List ℕ → ℕ → Check
 wrongMemory a at = check (not (eqb (wordAt a at) 1)) WrongMemory
 
@@ -57,53 +70,60 @@ named s a = controlFields s (placeOf s (wordAt a 0))
 abbrev pub outOfRange : Control → ℕ → Bool
 outOfRange c v = not (eqb (c .kind) 4) && (ltZ (signed v) (c .limits .minimum) || ltZ (c .limits .maximum) (signed v))
 
--- an opening: 22 for a bad sheet or a memory that is too long
-abbrev pub openingTests : List ℕ → ℕ → List Check
-openingTests s n = check (not (goodSheet s)) BadSheet ∷ check (ltb longestMemory n) MemoryTooLong ∷ []
+-- an opening: 22 for a bad sheet, or a memory of either stream that is too long
+abbrev pub openingTests : List ℕ → ℕ → ℕ → List Check
+openingTests s n m = check (not (goodSheet s)) BadSheet ∷ check (ltb longestMemory n) MemoryTooLong ∷ check (ltb longestMemory m) MemoryTooLong ∷ []
 
 -- the paper has buffer k in one of its queues
 abbrev pub queuedOn : Paper → ℕ → Bool
 queuedOn p k = any (λ x. eqb x k) (p .incoming) || any (λ x. eqb (indexOf x) k) (p .outgoing)
 
--- the tests of each call, its argument having the length that its word says
-abbrev pub tests : Asked → List ℕ → Paper → List ℕ → List Check
-tests Unknown s p a = check true UnknownWord ∷ []
-tests Querycap s p a = []
-tests EnumFmt s p a = wrongType a 4 ∷ check (leb (formatCount s) (wordAt a 0)) NoSuchIndex ∷ []
-tests GFmt s p a = wrongType a 0 ∷ []
-tests SFmt s p a = wrongType a 0 ∷ check (not (eqb (p .granted) 0)) BuffersExist ∷ []
-tests TryFmt s p a = wrongType a 0 ∷ []
-tests Reqbufs s p a = wrongType a 4 ∷ wrongMemory a 8 ∷ check (p .running && not (eqb (wordAt a 0) 0)) Streaming ∷ []
-tests Querybuf s p a = wrongType a 4 ∷ check (leb (p .granted) (wordAt a 0)) NoSuchIndex ∷ []
-tests Qbuf s p a =
-    wrongType a 4 ∷ wrongMemory a 48 ∷ check (leb (p .granted) (wordAt a 0)) NoSuchIndex ∷ check (queuedOn p (wordAt a 0)) NotDequeued ∷ []
-tests Dqbuf s p a =
-    wrongType a 4 ∷ wrongMemory a 48 ∷ check (eqb (p .granted) 0) NoBuffers ∷ check (not (p .running)) NotStreaming
-    ∷ check (eqb (length (p .outgoing)) 0) NothingOutgoing ∷ []
-tests Streamon s p a = wrongType a 0 ∷ check (eqb (p .granted) 0) NoBuffers ∷ []
-tests Streamoff s p a = wrongType a 0 ∷ []
-tests GCtrl s p a =
+-- the paper of the stream whose type the argument names at a place
+abbrev pub paperAt : (Kind → Paper) → List ℕ → ℕ → Paper
+paperAt P a at = P (kindOf (wordAt a at))
+
+-- the tests of each call, its argument having the length that its word says; P are the papers of the streams
+abbrev pub tests : Asked → List ℕ → (Kind → Paper) → List ℕ → List Check
+tests Unknown s P a = check true UnknownWord ∷ []
+tests Querycap s P a = []
+tests EnumFmt s P a = wrongType a 4 ∷ check (leb (formatCount s) (wordAt a 0)) NoSuchIndex ∷ []
+tests GFmt s P a = wrongStream a 0 ∷ []
+tests SFmt s P a = wrongStream a 0 ∷ check (not (eqb (paperAt P a 0 .granted) 0)) BuffersExist ∷ []
+tests TryFmt s P a = wrongStream a 0 ∷ []
+tests Reqbufs s P a = wrongStream a 4 ∷ wrongMemory a 8 ∷ check (paperAt P a 4 .running && not (eqb (wordAt a 0) 0)) Streaming ∷ []
+tests Querybuf s P a = wrongStream a 4 ∷ check (leb (paperAt P a 4 .granted) (wordAt a 0)) NoSuchIndex ∷ []
+tests Qbuf s P a =
+    wrongStream a 4 ∷ wrongMemory a 48 ∷ check (leb (paperAt P a 4 .granted) (wordAt a 0)) NoSuchIndex
+    ∷ check (queuedOn (paperAt P a 4) (wordAt a 0)) NotDequeued ∷ []
+tests Dqbuf s P a =
+    wrongStream a 4 ∷ wrongMemory a 48 ∷ check (eqb (paperAt P a 4 .granted) 0) NoBuffers ∷ check (not (paperAt P a 4 .running)) NotStreaming
+    ∷ check (eqb (length (paperAt P a 4 .outgoing)) 0) NothingOutgoing ∷ []
+tests Streamon s P a = wrongStream a 0 ∷ check (eqb (paperAt P a 0 .granted) 0) NoBuffers ∷ []
+tests Streamoff s P a = wrongStream a 0 ∷ []
+tests GCtrl s P a =
     check (leb (present s) (placeOf s (wordAt a 0))) NoSuchControl ∷ check (eqb (named s a .flags % 2) 1) ControlDisabled
     ∷ check (eqb (named s a .kind) 4) ControlIsButton ∷ []
-tests SCtrl s p a =
+tests SCtrl s P a =
     check (leb (present s) (placeOf s (wordAt a 0))) NoSuchControl ∷ check (eqb (named s a .flags % 2) 1) ControlDisabled
     ∷ check (eqb (named s a .flags / 4 % 2) 1) ControlReadOnly ∷ check (eqb (named s a .flags / 2 % 2) 1) ControlGrabbed
     ∷ check (outOfRange (named s a) (wordAt a 4)) OutOfRange ∷ []
-tests Queryctrl s p a = check (leb (present s) (queriedPlace s (wordAt a 0))) NoSuchControl ∷ []
-tests Cropcap s p a = wrongType a 0 ∷ []
-tests GCrop s p a = wrongType a 0 ∷ []
-tests SCrop s p a = wrongType a 0 ∷ []
+tests Queryctrl s P a = check (leb (present s) (queriedPlace s (wordAt a 0))) NoSuchControl ∷ []
+tests Cropcap s P a = wrongType a 0 ∷ []
+tests GCrop s P a = wrongType a 0 ∷ []
+tests SCrop s P a = wrongType a 0 ∷ []
+tests GSlicedVbiCap s P a = check (not (eqb (wordAt a 100) 6)) WrongType ∷ []
 
 -- a request: the opening was refused, an unknown word, the argument's length, then the call's own tests
-abbrev pub requestTests : ℕ → List ℕ → Paper → ℕ → List ℕ → List Check
-requestTests n s p w a =
+abbrev pub requestTests : ℕ → List ℕ → (Kind → Paper) → ℕ → List ℕ → List Check
+requestTests n s P w a =
     check (not (eqb n 0)) Closed ∷ check (eqb (requestOf w .size) 0) UnknownWord
-    ∷ check (not (eqb (length a) (requestOf w .size))) ArgumentLength ∷ tests (requestOf w .call) s p a
+    ∷ check (not (eqb (length a) (requestOf w .size))) ArgumentLength ∷ tests (requestOf w .call) s P a
 
--- an arrival: the opening was refused, another memory is lent, the run is full
-abbrev pub arrivalTests : ℕ → ℕ → Paper → ℕ → List Check
-arrivalTests n long p lent =
-    check (not (eqb n 0)) Closed ∷ check (not (eqb lent long)) MemoryLength ∷ check (p .running && leb runLimit (p .run .accepted)) RunFull ∷ []
+-- an arrival of a type: the opening was refused, no such stream, another memory is lent, the run is full
+abbrev pub arrivalTests : ℕ → (Kind → ℕ) → (Kind → Paper) → ℕ → ℕ → List Check
+arrivalTests n long P t lent =
+    check (not (eqb n 0)) Closed ∷ check (noStream t) WrongType ∷ check (not (eqb lent (long (kindOf t)))) MemoryLength
+    ∷ check (P (kindOf t) .running && leb runLimit (P (kindOf t) .run .accepted)) RunFull ∷ []
 
 -- the first test that holds refuses an arrival; where none does, it is answered this
 abbrev pub refusedBy : List Check → Arrival → Arrival
@@ -115,9 +135,14 @@ abbrev pub placedOn : List ℕ → ℕ → Arrival
 placedOn [] n = Dropped
 placedOn (k ∷ i) n = Stored k n
 
--- an arrival of n bytes that is not refused: ignored outside a run; damaged unless it is whole; then it is placed, with its number
-abbrev pub arrivedOn : Paper → ℕ → Time → Arrival
-arrivedOn p n t = cond (not (p .running)) Ignored (cond (wholePicture n (p .size) t) (placedOn (p .incoming) (p .run .accepted)) Damaged)
+-- whether a frame is whole: a picture by the image size in force, captions by the services in force
+abbrev pub wholeOn : Kind → ℕ → List ℕ → List ℕ → Time → Bool
+wholeOn Kind.pictures size services f t = wholePicture (length f) size t
+wholeOn Kind.captions size services f t = wholeCaption services f t
+
+-- an arrival that is not refused: ignored outside a run; damaged unless it is whole; then it is placed, with its number
+abbrev pub arrivedOn : Kind → Paper → List ℕ → List ℕ → Time → Arrival
+arrivedOn k p services f t = cond (not (p .running)) Ignored (cond (wholeOn k (p .size) services f t) (placedOn (p .incoming) (p .run .accepted)) Damaged)
 
 -- the number that an arrival gives back
 abbrev pub arrivalNumber : Arrival → ℕ

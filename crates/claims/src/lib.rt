@@ -4,6 +4,7 @@ ghost use mathlib.Core.Path.{_≡_};
 ghost use mathlib.Core.Bool.{true};
 ghost use mathlib.Core.List.{List};
 ghost use Prim.Native.Nat.{ℕ};
+ghost use Rattle.claims.specs.Calls.{Kind};
 ghost use Rattle.claims.specs.Meets.{Demand1, Demand2, Demand3, Counts, Answers, Meets};
 ghost use Rattle.claims.specs.Waiting.{StoppedOrIdle};
 ghost use Rattle.claims.specs.NoRoom.{NoRoom};
@@ -11,43 +12,44 @@ ghost use Rattle.claims.specs.Device.{machineOf, ourDevice};
 
 // Every call has an answer, by the refusal table; a refusal leaves no trace.
 pub fn demand_1() -> bool
-    ensures { λ r. ⌜ (r ≡ true) × ((s m : List ℕ) → Demand1 s m (machineOf ourDevice s m)) ⌝ }
+    ensures { λ r. ⌜ (r ≡ true) × ((s : List ℕ) (m : Kind → List ℕ) → Demand1 s m (machineOf ourDevice s m)) ⌝ }
 {
     true
 }
 
-// Trying a format leaves no trace and predicts, byte for byte, what setting it answers: the nearest sizes, the code asked or the first.
+// Trying a format leaves no trace and predicts, byte for byte, what setting it answers: of pictures the nearest sizes and the code asked or the
+// first, of captions all the services that fit.
 pub fn demand_2() -> bool
-    ensures { λ r. ⌜ (r ≡ true) × ((s m : List ℕ) → Demand2 s (machineOf ourDevice s m)) ⌝ }
+    ensures { λ r. ⌜ (r ≡ true) × ((s : List ℕ) (m : Kind → List ℕ) → Demand2 s (machineOf ourDevice s m)) ⌝ }
 {
     true
 }
 
-// A buffer handed in gets its arrival and comes back with exactly that; the film is COMPLETE exactly when all arrivals of the last run were
+// Of each stream: a buffer handed in gets its arrival and comes back with exactly that; the film is COMPLETE exactly when all arrivals of the last run were
 // whole, stored and handed over; and nothing else is ever written.
 pub fn demand_3() -> bool
-    ensures { λ r. ⌜ (r ≡ true) × ((s m : List ℕ) → Demand3 s m (machineOf ourDevice s m)) ⌝ }
+    ensures { λ r. ⌜ (r ≡ true) × ((s : List ℕ) (m : Kind → List ℕ) (k : Kind) → Demand3 s m (machineOf ourDevice s m) k) ⌝ }
 {
     true
 }
 
-// The counts add up and are those told; each buffer is in one place; each verdict is given exactly when the paper says.
+// Of each stream: the counts add up and are those told; each buffer is in one place; each verdict is given exactly when the paper says.
 pub fn counts() -> bool
-    ensures { λ r. ⌜ (r ≡ true) × ((s m : List ℕ) → Counts s (machineOf ourDevice s m)) ⌝ }
+    ensures { λ r. ⌜ (r ≡ true) × ((s : List ℕ) (m : Kind → List ℕ) (k : Kind) → Counts s (machineOf ourDevice s m) k) ⌝ }
 {
     true
 }
 
 // Every call that is accepted, and every plane, is answered by the sheet, the calls before and their answers.
 pub fn answers() -> bool
-    ensures { λ r. ⌜ (r ≡ true) × ((s m : List ℕ) → Answers s m (machineOf ourDevice s m)) ⌝ }
+    ensures { λ r. ⌜ (r ≡ true) × ((s : List ℕ) (m : Kind → List ℕ) → Answers s m (machineOf ourDevice s m)) ⌝ }
 {
     true
 }
 
-// A DQBUF that is answered 11 is one to be asked again soon: a run is on and there are buffers. Outside a run it gives 22.
+// Of each stream: a DQBUF that is answered 11 is one to be asked again soon: a run is on and there are buffers. Outside a run it gives 22.
 pub fn stopped_or_idle() -> bool
-    ensures { λ r. ⌜ (r ≡ true) × ((s m : List ℕ) → StoppedOrIdle (machineOf ourDevice s m)) ⌝ }
+    ensures { λ r. ⌜ (r ≡ true) × ((s : List ℕ) (m : Kind → List ℕ) (k : Kind) → StoppedOrIdle (machineOf ourDevice s m) k) ⌝ }
 {
     true
 }

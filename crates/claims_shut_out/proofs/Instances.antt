@@ -15,6 +15,7 @@ use Rattle.wire_signed.specs.Signed.{signed, signedAt}
 use Rattle.ioctl_table.specs.Table.{requestOf, callOf, knownWords}
 use Rattle.ioctl_table.specs.declared.table.Call.{Call as Asked}
 use Rattle.ioctl_table.specs.declared.table.Call.the-variants.{Unknown, SFmt, TryFmt, Reqbufs, Qbuf, Dqbuf, SCrop}
+use Rattle.stream_words.specs.Lists.{any}
 use Rattle.stream_words.specs.Stream.{Run}
 use Rattle.stream_run.specs.Stream.{freshRun}
 use Rattle.stream_arrival.specs.declared.Arrival.{Arrival}
@@ -22,22 +23,24 @@ use Rattle.stream_arrival.specs.declared.Arrival.the-variants.{Refused, Ignored
 use Rattle.stream_verdict.specs.declared.Verdict.{Verdict}
 use Rattle.stream_verdict.specs.declared.Verdict.the-variants.{Running, Blank, Gaps, Complete}
 use Rattle.stream_history.specs.Paper.{Paper, blank, noted, tells}
-use Rattle.claims.specs.Calls.{Call, Reply}
+use Rattle.claims.specs.Calls.{Kind, Call, Reply}
 use Rattle.claims.specs.Calls.Call.{request, arrival}
-use Rattle.claims.specs.Calls.Reply.{taken}
 use Rattle.claims.specs.Machine.{Session, Machine, Given, more, replyIn}
 use Rattle.claims.specs.Words.{told, openingSize, paperIn}
-use Rattle.claims.specs.Meets.{Demand1}
+use Rattle.claims.specs.Desk.{Desk, choice, openingDesk, deskFrom}
+use Rattle.claims.specs.Meets.{Demand1, Answers}
 use Rattle.claims.specs.Waiting.{Starts, Ends}
 use Rattle.claims.proofs.Devices.{device-meets}
 use Rattle.claims.proofs.InForce.{now-in-force}
 use Rattle.bench_sheet.specs.Bench.{benchSheet}
-use Rattle.claims_shut_out.specs.Faults.{leftZero, AlwaysComplete, NeverComplete, LaterPretend, OddRefused, FailedCounted, StoredNumbered, YoungestFirst, SoonWhenStopped, NeverSoon, Out}
-use Rattle.claims_shut_out.specs.Wrong.{ours, raised, leftRaised, telling, place, only, refused, noneIn, echoed, oddOut, answering, filledBy, youngest, praised, blamed, failedIn, withFailed, renumbered, flooded, ifStored, filledOnce, neverOpens, allRefusing, grantsNone, grantsFewer, alwaysRunning, alwaysBlank, alwaysGaps, alwaysComplete, stoppedComplete, neverComplete, idle, laterPretend, uncounted, tryEchoes, oddTried, oddSet, failedCounted, storedNumbered, youngestFirst, calledOff, soonWhenStopped, neverSoon, unknownInvalid, Wrong, WrongDevices}
-use Rattle.claims_shut_out.proofs.Played.{tenBuffers, buffer, reqbufs, streamon, dqbuf, asked, asks-ten, four, at-four}
-use Rattle.claims_shut_out.proofs.Shut.{dark, dark-long, never-opens, all-refusing, grants-none, grants-fewer, constant-verdict, always-complete, invented-totals, try-echoes, odd-tried, odd-set, left-raised, failed-counted}
+use Rattle.claims_shut_out.specs.Faults.{leftZero, AlwaysComplete, NeverComplete, LaterPretend, OddRefused, FailedCounted, StoredNumbered, YoungestFirst, SoonWhenStopped, NeverSoon, StreamsMixed, HeldUp, TwiceTaken, AllTypes, Out}
+use Rattle.claims_shut_out.specs.Wrong.{ours, raised, leftRaised, telling, place, only, refused, noneIn, echoed, oddOut, answering, storedBy, filledBy, youngest, praised, blamed, failedIn, withFailed, renumbered, flooded, ifStored, filledOnce, neverOpens, allRefusing, grantsNone, grantsFewer, alwaysRunning, alwaysBlank, alwaysGaps, alwaysComplete, stoppedComplete, neverComplete, idle, laterPretend, uncounted, tryEchoes, oddTried, oddSet, failedCounted, storedNumbered, youngestFirst, calledOff, soonWhenStopped, neverSoon, unknownInvalid, alsoWaiting, streamsMixed, busy, heldUp, twiceTaken, allTypes, oneVerdict, Wrong, WrongDevices}
+use Rattle.claims_shut_out.proofs.Played.{tenBuffers, buffer, reqbufs, streamon, dqbuf, dark, dark-long, at-first, came, asked, asks-ten, four, at-four}
+use Rattle.claims_shut_out.proofs.Shut.{never-opens, all-refusing, grants-none, grants-fewer, constant-verdict, always-complete, invented-totals, try-echoes, odd-tried, odd-set, left-raised, failed-counted}
 use Rattle.claims_shut_out.proofs.Film.{idle-arrival, later-pretend, stored-numbered, youngest-first}
 use Rattle.claims_shut_out.proofs.Complete.{never-complete}
+use Rattle.claims_shut_out.proofs.Streams.{no-captions, streams-mixed, held-up, twice-taken, all-types, one-verdict}
+use Rattle.claims_shut_out.proofs.Captions.{services, captionBuffer, sets, asks, hands, begins, line21, C1, C2, C3, sets-them, pictures-2, at-2, at-3, stores}
 use Rattle.claims_shut_out.proofs.Stopped.{soon-when-stopped, waits, never-soon, unknown-invalid}
 
 -- ---- requests
@@ -47,10 +50,10 @@ unfolding wordAt
 no-buffers = refl
 
 refuses-odd : (call : Asked) → eqb (place call) (place call) ≡ true → OddRefused (answering call oddOut) call
-refuses-odd call same s m cs w a e odd off z =
+refuses-odd call same s m cs w a e type odd off z =
     let r : Given = ours s m .request cs w a in
     let q : only call oddOut (requestOf w .call) a r .number ≡ 22 =
-    ap (λ (c : Asked). only call oddOut c a r .number) e ∙ ap₂ (λ (b : Bool) (n : ℕ). (cond b (cond (eqb n 1) (refused a r) r) r) .number) same odd in
+    rw (e, same, type, odd) in
     omega (arith, q, z)
 
 raised-same : (cs : List Call) (c e : Call) → raised c ≡ raised e → map raised (more cs c) ≡ map raised (more cs e)
@@ -65,35 +68,41 @@ once-raised w a call below = ap₂ (λ (c : Asked) (b : Bool). request w (cond (
 
 -- ---- the youngest
 
-youngest-more : (S : Session) (cs h : List Call) (c : Call) (k : ℕ) → youngest S h (more cs c) k ≡ filledBy (replyIn S (h ++ cs) c) (youngest S h cs k)
-youngest-more S [] h c k = ap (λ (l : List Call). filledBy (replyIn S l c) k) (sym (append-nil h))
-youngest-more S (d ∷ cs) h c k =
-    youngest-more S cs (more h d) c (filledBy (replyIn S h d) k)
-    ∙ ap (λ (l : List Call). filledBy (replyIn S l c) (youngest S (more h d) cs (filledBy (replyIn S h d) k))) (append-assoc h (d ∷ []) cs)
+youngest-more : (t : ℕ) (S : Session) (cs h : List Call) (c : Call) (k : ℕ) → youngest t S h (more cs c) k ≡ filledBy t S (h ++ cs) c (youngest t S h cs k)
+youngest-more t S [] h c k = ap (λ (l : List Call). filledBy t S l c k) (sym (append-nil h))
+youngest-more t S (d ∷ cs) h c k =
+    youngest-more t S cs (more h d) c (filledBy t S h d k)
+    ∙ ap (λ (l : List Call). filledBy t S l c (youngest t S (more h d) cs (filledBy t S h d k))) (append-assoc h (d ∷ []) cs)
 
 one-byte : (k : ℕ) (l : List ℕ) → wordAt (k ∷ 0 ∷ 0 ∷ 0 ∷ l) 0 ≡ k
 unfolding wordAt
 one-byte k l = omega arith
 
 gives-youngest : YoungestFirst youngestFirst
-gives-youngest s m cs f x y other k n w a e call h =
+gives-youngest s m cs f x y other k n w a e call type h =
     let S : Session = ours s m in
-    let l : List Call = more cs (arrival f x y other) in
-    ap (λ (c : Asked). wordAt (only Dqbuf (λ b r. record { number = r .number; argument = youngest S [] l 0 ∷ 0 ∷ 0 ∷ 0 ∷ drop 4 (r .argument) }) c a (S .request l w a) .argument) 0) call
-    ∙ one-byte (youngest S [] l 0) (drop 4 (S .request l w a .argument))
-    ∙ youngest-more S cs [] (arrival f x y other) 0 ∙ ap (λ (r : Arrival). filledBy (taken r) (youngest S [] cs 0)) e
+    let l : List Call = more cs (arrival 1 f x y other) in
+    ap₂ (λ (c : Asked) (t : ℕ). wordAt (only Dqbuf (λ b r. record { number = r .number; argument = youngest t S [] l 0 ∷ 0 ∷ 0 ∷ 0 ∷ drop 4 (r .argument) }) c a (S .request l w a) .argument) 0) call type
+    ∙ one-byte (youngest 1 S [] l 0) (drop 4 (S .request l w a .argument))
+    ∙ youngest-more 1 S cs [] (arrival 1 f x y other) 0 ∙ ap (λ (r : Arrival). storedBy r (youngest 1 S [] cs 0)) e
 
 -- ---- the verdict
 
 -- the paper is told by the answers alone
-same-paper : (s : List ℕ) (S : Session) (memory : List Call → List ℕ) (verdict : List Call → Verdict) (counts : List Call → Run) (cs : List Call)
-    → paperIn s (telling S memory verdict counts) cs ≡ paperIn s S cs
-same-paper s S memory verdict counts cs =
-    ap (λ (r : List Call → Call → Reply). noted (blank (openingSize s)) (tells r more told [] (blank (openingSize s)) cs)) (fun-ext λ h. fun-ext λ c. replies h c)
-  where
-    replies : (h : List Call) (c : Call) → replyIn (telling S memory verdict counts) h c ≡ replyIn S h c
-    replies h (request w a) = refl
-    replies h (arrival f x y other) = refl
+module _ (s : List ℕ) (S : Session) (memory : Kind → List Call → List ℕ) (verdict : List Call → ℕ → Verdict) (counts : Kind → List Call → Run) where
+  replies : (h : List Call) (c : Call) → replyIn (telling S memory verdict counts) h c ≡ replyIn S h c
+  replies h (request w a) = refl
+  replies h (arrival t f x y other) = refl
+
+  same-desk : (cs h : List Call) (q : Desk) → deskFrom s (telling S memory verdict counts) h q cs ≡ deskFrom s S h q cs
+  same-desk [] h q = refl
+  same-desk (c ∷ cs) h q =
+      same-desk cs (more h c) (choice s q c (replyIn (telling S memory verdict counts) h c)) ∙ ap (λ (r : Reply). deskFrom s S (more h c) (choice s q c r) cs) (replies h c)
+
+  same-paper : (k : Kind) (cs : List Call) → paperIn s (telling S memory verdict counts) k cs ≡ paperIn s S k cs
+  same-paper k cs =
+      ap (λ (r : List Call → Call → Reply × List ℕ). noted (blank (openingSize s k)) (tells r more (told k) [] (blank (openingSize s k)) cs))
+      (fun-ext λ h. fun-ext λ c. ap₂ (λ (r : Reply) (q : Desk). (r, q .services)) (replies h c) (same-desk h [] (openingDesk s)))
 
 praised-stopped : (v : Verdict) → v ≢ Running → praised v ≡ Complete
 praised-stopped Running h = absurd (h refl)
@@ -102,10 +111,13 @@ praised-stopped Gaps h = refl
 praised-stopped Complete h = refl
 
 praises : AlwaysComplete stoppedComplete
-praises s m cs stopped =
-    let S : Session = ours s m in
-    let e = sym (ap (λ (p : Paper). p .running) (same-paper s S (S .memory) (λ cs. praised (S .verdict cs)) (S .counts) cs)) ∙ stopped in
-    praised-stopped (S .verdict cs) (λ v. false≢true (sym e ∙ device-meets .counts s m .running cs .0 v))
+praises = (
+  Kind.pictures,
+  λ s m cs stopped.
+      let S : Session = ours s m in
+      let e = sym (ap (λ (p : Paper). p .running) (same-paper s S (S .memory) (λ cs t. praised (S .verdict cs t)) (S .counts) Kind.pictures cs)) ∙ stopped in
+      praised-stopped (S .verdict cs 1) (λ v. false≢true (sym e ∙ device-meets .counts s m Kind.pictures .running cs .0 v)),
+)
 
 abbrev isComplete : Verdict → Bool
 isComplete Running = false
@@ -120,7 +132,7 @@ unfair Gaps = refl
 unfair Complete = refl
 
 blames : NeverComplete neverComplete
-blames s m cs e = false≢true (sym (unfair (ours s m .verdict cs)) ∙ ap isComplete e)
+blames s m cs e = false≢true (sym (unfair (ours s m .verdict cs 1)) ∙ ap isComplete e)
 
 -- ---- the counts
 
@@ -129,18 +141,18 @@ module _ (S : Session) (d : Demand1 benchSheet dark S) where
   is-refused : S .request (reqbufs ∷ streamon ∷ []) 0xC0445611 (buffer 0) .number ≢ 0
   is-refused z = omega (arith, waits S d, z)
 
-  one-failed : failedIn S [] (reqbufs ∷ streamon ∷ dqbuf ∷ []) ≡ 1
-  unfolding requestOf callOf knownWords
+  one-failed : failedIn S Kind.pictures [] (reqbufs ∷ streamon ∷ dqbuf ∷ []) ≡ 1
+  unfolding requestOf callOf knownWords wordAt le32 bytesOf
   one-failed = ap (λ (n : ℕ). 0 + (0 + (cond (not (eqb n 0)) 1 0 + 0))) (waits S d)
 
-  none-failed : failedIn S [] (reqbufs ∷ streamon ∷ []) ≡ 0
+  none-failed : failedIn S Kind.pictures [] (reqbufs ∷ streamon ∷ []) ≡ 0
   unfolding requestOf callOf knownWords
   none-failed = refl
 
-  miscounts : withFailed (S .counts (reqbufs ∷ streamon ∷ dqbuf ∷ [])) (failedIn S [] (reqbufs ∷ streamon ∷ dqbuf ∷ []))
-      ≢ withFailed (S .counts (reqbufs ∷ streamon ∷ [])) (failedIn S [] (reqbufs ∷ streamon ∷ []))
+  miscounts : withFailed (S .counts Kind.pictures (reqbufs ∷ streamon ∷ dqbuf ∷ [])) (failedIn S Kind.pictures [] (reqbufs ∷ streamon ∷ dqbuf ∷ []))
+      ≢ withFailed (S .counts Kind.pictures (reqbufs ∷ streamon ∷ [])) (failedIn S Kind.pictures [] (reqbufs ∷ streamon ∷ []))
   miscounts e =
-      let same = ap (λ (r : Run). r .handed) (d .kept (reqbufs ∷ streamon ∷ []) 0xC0445611 (buffer 0) is-refused .1 [] .counts) in
+      let same = ap (λ (r : Run). r .handed) (d .kept (reqbufs ∷ streamon ∷ []) 0xC0445611 (buffer 0) is-refused .1 [] .counts Kind.pictures) in
       let h = ap (λ (r : Run). r .handed) e in
       omega (arith, same, h, one-failed, none-failed)
 
@@ -148,7 +160,7 @@ counts-failed : FailedCounted failedCounted
 unfolding requestOf callOf knownWords
 counts-failed =
     let d : Demand1 benchSheet dark (ours benchSheet dark) = device-meets .demand-1 benchSheet dark in
-    (benchSheet, dark, reqbufs ∷ streamon ∷ [], 0xC0445611, buffer 0, refl, is-refused (ours benchSheet dark) d, miscounts (ours benchSheet dark) d)
+    (benchSheet, dark, Kind.pictures, reqbufs ∷ streamon ∷ [], 0xC0445611, buffer 0, refl, is-refused (ours benchSheet dark) d, miscounts (ours benchSheet dark) d)
 
 -- ---- stopped and idle
 
@@ -158,13 +170,15 @@ unfolding requestOf callOf knownWords wordAt le32 bytesOf
 puts-off =
     let S : Session = ours benchSheet dark in
     let d : Demand1 benchSheet dark S = device-meets .demand-1 benchSheet dark in
-    let is : S .request (reqbufs ∷ []) 0xC0445611 (buffer 0) .number ≡ 22 = asked dark dark-long S d (reqbufs ∷ []) (four dark dark-long S d) 0xC0445611 (buffer 0) (at-four dark dark-long S d) refl in (
+    let is : S .request (reqbufs ∷ []) 0xC0445611 (buffer 0) .number ≡ 22 = asked S d (reqbufs ∷ []) (four S d) 0xC0445611 (buffer 0) (at-four S d) refl in (
       benchSheet,
       dark,
+      Kind.pictures,
       reqbufs ∷ [],
       0xC0445611,
       buffer 0,
-      now-in-force (soonWhenStopped benchSheet dark) Ends Starts [] 0xC0145608 tenBuffers (inr refl, asks-ten dark dark-long S d),
+      now-in-force (soonWhenStopped benchSheet dark) Kind.pictures Ends Starts [] 0xC0145608 tenBuffers (inr refl, refl, asks-ten S d),
+      refl,
       refl,
       ap (λ (n : ℕ). cond (eqb n 22) 11 n) is,
     )
@@ -198,29 +212,119 @@ renumbers (Stored k j) r = refl
 
 numbers-stored : StoredNumbered storedNumbered
 numbers-stored s m cs f x y other k n e =
-    let r : Run = ours s m .counts cs in
-    sym (ap (λ (v : Arrival). numberIn v (r .accepted - (r .damaged + r .dropped))) e) ∙ renumbers (ours s m .arrival cs f x y other) r
+    let r : Run = ours s m .counts Kind.pictures cs in
+    sym (ap (λ (v : Arrival). numberIn v (r .accepted - (r .damaged + r .dropped))) e) ∙ renumbers (ours s m .arrival cs 1 f x y other) r
 
--- what comes behind a stored arrival is not looked at
+-- what comes behind a stored picture is not looked at
 module _ (s : List ℕ) (S : Session) (m f : List ℕ) (x y : ℕ) (other : List ℕ) (k n : ℕ) where
-  first-only : (cs h ds : List Call) → S .arrival (h ++ cs) f x y other ≡ Stored k n
-      → filledOnce s S m h (cs ++ arrival f x y other ∷ ds) ≡ filledOnce s S m h (cs ++ arrival f x y other ∷ [])
-  first-only [] h ds e = ap (λ (r : Arrival). ifStored r (flooded (paperIn s S h .granted) (paperIn s S h .size) m f) (filledOnce s S m (more h (arrival f x y other)) ds)) (at-h)
-      ∙ sym (ap (λ (r : Arrival). ifStored r (flooded (paperIn s S h .granted) (paperIn s S h .size) m f) m) at-h)
+  -- every buffer filled
+  abbrev full : List Call → List ℕ → List ℕ
+  full h g = flooded (paperIn s S Kind.pictures h .granted) (paperIn s S Kind.pictures h .size) m g
+
+  first-only : (cs h ds : List Call) → S .arrival (h ++ cs) 1 f x y other ≡ Stored k n
+      → filledOnce s S m h (cs ++ arrival 1 f x y other ∷ ds) ≡ filledOnce s S m h (cs ++ arrival 1 f x y other ∷ [])
+  first-only [] h ds e = ap (λ (r : Arrival). ifStored r (full h f) (filledOnce s S m (more h (arrival 1 f x y other)) ds)) at-h
+      ∙ sym (ap (λ (r : Arrival). ifStored r (full h f) m) at-h)
     where
-      at-h : S .arrival h f x y other ≡ Stored k n
-      at-h = ap (λ (l : List Call). S .arrival l f x y other) (sym (append-nil h)) ∙ e
+      at-h : S .arrival h 1 f x y other ≡ Stored k n
+      at-h = ap (λ (l : List Call). S .arrival l 1 f x y other) (sym (append-nil h)) ∙ e
   first-only (request w a ∷ cs) h ds e =
-      first-only cs (more h (request w a)) ds (ap (λ (l : List Call). S .arrival l f x y other) (append-assoc h (request w a ∷ []) cs) ∙ e)
-  first-only (arrival g u v lent ∷ cs) h ds e =
-      ap (ifStored (S .arrival h g u v lent) (flooded (paperIn s S h .granted) (paperIn s S h .size) m g))
-      (first-only cs (more h (arrival g u v lent)) ds (ap (λ (l : List Call). S .arrival l f x y other) (append-assoc h (arrival g u v lent ∷ []) cs) ∙ e))
+      first-only cs (more h (request w a)) ds (ap (λ (l : List Call). S .arrival l 1 f x y other) (append-assoc h (request w a ∷ []) cs) ∙ e)
+  first-only (arrival t g u v lent ∷ cs) h ds e =
+      ap (λ (l : List ℕ). cond (eqb t 1) (ifStored (S .arrival h t g u v lent) (full h g) l) l)
+      (first-only cs (more h (arrival t g u v lent)) ds (ap (λ (l : List Call). S .arrival l 1 f x y other) (append-assoc h (arrival t g u v lent ∷ []) cs) ∙ e))
 
 pretends : LaterPretend laterPretend
 pretends s m cs f x y other k n ds g u v lent e =
     let S : Session = ours s m in
-    ap (filledOnce s S m []) (append-assoc cs (arrival f x y other ∷ ds) (arrival g u v lent ∷ []))
-    ∙ first-only s S m f x y other k n cs [] (ds ++ (arrival g u v lent ∷ [])) e ∙ sym (first-only s S m f x y other k n cs [] ds e)
+    ap (filledOnce s S (m Kind.pictures) []) (append-assoc cs (arrival 1 f x y other ∷ ds) (arrival 1 g u v lent ∷ []))
+    ∙ first-only s S (m Kind.pictures) f x y other k n cs [] (ds ++ (arrival 1 g u v lent ∷ [])) e ∙ sym (first-only s S (m Kind.pictures) f x y other k n cs [] ds e)
+
+-- ---- two streams
+
+-- a QBUF of pictures is accepted, until the captions have that index waiting
+mixes : StreamsMixed streamsMixed
+unfolding C1 C2 C3 requestOf callOf knownWords wordAt le32 bytesOf any
+mixes =
+    let S : Session = ours benchSheet dark in
+    let d : Demand1 benchSheet dark S = device-meets .demand-1 benchSheet dark in
+    let k : Answers benchSheet dark S = device-meets .answers benchSheet dark in
+    let before : S .request (reqbufs ∷ sets ∷ asks ∷ []) 0xC044560F (buffer 0) .number ≡ 0 =
+    asked S d (reqbufs ∷ sets ∷ asks ∷ []) (four S d) 0xC044560F (buffer 0) (pictures-2 S d k) refl in
+    let clash : alsoWaiting (paperIn benchSheet S Kind.captions (reqbufs ∷ sets ∷ asks ∷ hands ∷ [])) (buffer 0) (S .request (reqbufs ∷ sets ∷ asks ∷ hands ∷ []) 0xC044560F (buffer 0)) .number ≡ 22 =
+    ap (λ (p : Paper). alsoWaiting p (buffer 0) (S .request (reqbufs ∷ sets ∷ asks ∷ hands ∷ []) 0xC044560F (buffer 0)) .number) (at-3 S d k) in (
+      benchSheet,
+      dark,
+      reqbufs ∷ sets ∷ asks ∷ [],
+      0xC044560F,
+      captionBuffer 0,
+      0xC044560F,
+      buffer 0,
+      refl,
+      refl,
+      refl,
+      refl,
+      ap (λ (p : Paper). alsoWaiting p (buffer 0) (S .request (reqbufs ∷ sets ∷ asks ∷ []) 0xC044560F (buffer 0)) .number) (at-2 S d k) ∙ before,
+      λ z. omega (arith, clash, z),
+    )
+
+-- the pictures have buffers, the captions none
+holds-up : HeldUp heldUp
+unfolding requestOf callOf knownWords wordAt le32 bytesOf
+holds-up =
+    let S : Session = ours benchSheet dark in
+    let d : Demand1 benchSheet dark S = device-meets .demand-1 benchSheet dark in (
+      benchSheet,
+      dark,
+      reqbufs ∷ [],
+      0xC0CC5605,
+      services,
+      refl,
+      refl,
+      ap (λ (p : Paper). p .granted) (no-captions S d),
+      ap₂ (λ (p : Paper) (n : ℕ). busy p services (record { number = n; argument = S .request (reqbufs ∷ []) 0xC0CC5605 services .argument }) .number) (at-four S d)
+          (sets-them S d (device-meets .answers benchSheet dark)),
+    )
+
+-- two records of one line: the first alone would be stored
+takes-twice : TwiceTaken twiceTaken
+unfolding wordAt le32 bytesOf
+takes-twice =
+    let S : Session = ours benchSheet dark in (
+      benchSheet,
+      dark,
+      reqbufs ∷ sets ∷ asks ∷ hands ∷ begins ∷ [],
+      line21 ++ line21,
+      0,
+      0,
+      dark Kind.captions,
+      0,
+      1,
+      0,
+      0,
+      omega arith,
+      omega arith,
+      refl,
+      stores S (device-meets .demand-1 benchSheet dark) (device-meets .answers benchSheet dark),
+    )
+
+-- a frame of type 2 passes for a picture, outside a run
+takes-all : AllTypes allTypes
+takes-all =
+    let S : Session = ours benchSheet dark in
+    let d : Demand1 benchSheet dark S = device-meets .demand-1 benchSheet dark in (
+      benchSheet,
+      dark,
+      [],
+      2,
+      [],
+      0,
+      0,
+      dark Kind.pictures,
+      (λ e. omega (arith, e)),
+      (λ e. omega (arith, e)),
+      came S d Kind.pictures [] (blank 614400) [] 0 0 (dark Kind.pictures) (at-first S d) (rw (dark-long Kind.pictures)),
+    )
 
 -- ---- all of them
 
@@ -233,7 +337,7 @@ wrong-devices = record {
   never-opens = wrong never-opens neverOpens (λ s m e. omega (arith, e));
   all-refusing = wrong all-refusing allRefusing (λ s m cs w a e. omega (arith, e));
   grants-none = wrong grants-none grantsNone (λ s m cs w a e. ap (λ (call : Asked). wordAt (only Reqbufs noneIn call a (ours s m .request cs w a) .argument) 0) e ∙ no-buffers);
-  grants-fewer = wrong grants-fewer grantsFewer (λ s m cs w a v b e g h z.
+  grants-fewer = wrong grants-fewer grantsFewer (λ s m cs w a v b e g same h z.
       let q : only Qbuf refused (requestOf v .call) b (ours s m .request (more cs (request w a)) v b) .number ≡ 22 =
       ap (λ (call : Asked). only Qbuf refused call b (ours s m .request (more cs (request w a)) v b) .number) g in
       omega (arith, q, z));
@@ -246,7 +350,7 @@ wrong-devices = record {
   idle-arrival = wrong idle-arrival idle (λ s m cs f x y other. refl);
   later-pretend = wrong later-pretend laterPretend pretends;
   invented-totals = wrong invented-totals uncounted (freshRun 0, λ s m cs. refl);
-  try-echoes = wrong try-echoes tryEchoes (λ s m cs t a e. ap (λ (call : Asked). only TryFmt echoed call a (ours s m .request cs t a) .argument) e);
+  try-echoes = wrong try-echoes tryEchoes (λ s m cs t a e type. ap (λ (call : Asked). only TryFmt echoed call a (ours s m .request cs t a) .argument) e);
   odd-tried = wrong odd-tried oddTried (refuses-odd TryFmt refl);
   odd-set = wrong odd-set oddSet (refuses-odd SFmt refl);
   left-raised = wrong left-raised leftRaised (λ s m cs w a v b set get below.
@@ -257,4 +361,9 @@ wrong-devices = record {
   soon-when-stopped = wrong soon-when-stopped soonWhenStopped puts-off;
   never-soon = wrong never-soon neverSoon calls-off;
   unknown-invalid = wrong unknown-invalid unknownInvalid (λ s m cs w a e. ap (λ (call : Asked). only Unknown refused call a (ours s m .request cs w a) .number) e);
+  streams-mixed = wrong streams-mixed streamsMixed mixes;
+  held-up = wrong held-up heldUp holds-up;
+  twice-taken = wrong twice-taken twiceTaken takes-twice;
+  all-types = wrong all-types allTypes takes-all;
+  one-verdict = wrong one-verdict oneVerdict (λ s m cs. refl);
 }

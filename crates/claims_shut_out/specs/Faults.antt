@@ -1,9 +1,10 @@
 -- Faults that a machine can have. Each is said of any machine whatever, by what it gives back; none that has it meets the demands.
-use Prim.Native.Nat.{ℕ, suc, _+_, _-_, _%_}
+use Prim.Native.Nat.{ℕ, suc, _+_, _-_, _/_, _%_, _<_}
 use mathlib.Core.Path.{_≡_}
 use mathlib.Core.Logic.{_≢_}
 use mathlib.Core.Bool.{true, false}
 use mathlib.Core.List.{List, [], _∷_, _++_}
+use lib.ListN.{length}
 use lib.IntN.{pos}
 use lib.Signed.{ltZ}
 use Rattle.wire_read.specs.Words.{wordAt, bytesOf}
@@ -15,12 +16,14 @@ use Rattle.sheet_geometry.specs.Geometry.{widthsOf}
 use Rattle.grid_rules.specs.Grid.{sizeAt}
 use Rattle.stream_words.specs.Stream.{Run}
 use Rattle.stream_arrival.specs.declared.Arrival.the-variants.{Stored}
+use Rattle.caption_rules.specs.Caption.{placeAt}
 use Rattle.stream_verdict.specs.declared.Verdict.{Verdict}
 use Rattle.stream_verdict.specs.declared.Verdict.the-variants.{Complete}
-use Rattle.claims.specs.Calls.{Call}
+use Rattle.claims.specs.Calls.{Kind, typeOf, Call}
 use Rattle.claims.specs.Calls.Call.{request, arrival}
 use Rattle.claims.specs.Machine.{Machine, more}
 use Rattle.claims.specs.Words.{paperIn}
+use Rattle.claims.specs.Table.{arrivalNumber}
 use Rattle.claims.specs.Waiting.{Starts, Ends, InForce}
 use Rattle.claims.specs.Meets.{Meets}
 
@@ -31,88 +34,117 @@ leftZero a = bytesOf (wordAt a 0 ∷ 0 ∷ wordAt a 8 ∷ wordAt a 12 ∷ wordAt
 module _ (M : Machine) where
   -- every opening is refused
   abbrev pub NeverOpens : Type 0
-  NeverOpens = (s m : List ℕ) → M s m .opening ≢ 0
+  NeverOpens = (s : List ℕ) (m : Kind → List ℕ) → M s m .opening ≢ 0
 
   -- every request is refused, whatever the opening said
   abbrev pub AllRefusing : Type 0
-  AllRefusing = (s m : List ℕ) (cs : List Call) (w : ℕ) (a : List ℕ) → M s m .request cs w a .number ≢ 0
+  AllRefusing = (s : List ℕ) (m : Kind → List ℕ) (cs : List Call) (w : ℕ) (a : List ℕ) → M s m .request cs w a .number ≢ 0
 
   -- a buffer request never grants any
   abbrev pub GrantsNone : Type 0
-  GrantsNone = (s m : List ℕ) (cs : List Call) (w : ℕ) (a : List ℕ) → requestOf w .call ≡ Reqbufs → wordAt (M s m .request cs w a .argument) 0 ≡ 0
+  GrantsNone = (s : List ℕ) (m : Kind → List ℕ) (cs : List Call) (w : ℕ) (a : List ℕ) → requestOf w .call ≡ Reqbufs → wordAt (M s m .request cs w a .argument) 0 ≡ 0
 
-  -- a buffer request tells a count, and the last of those buffers is not there
+  -- a buffer request tells a count, and the last of those buffers of the same stream is not there
   abbrev pub GrantsFewer : Type 0
-  GrantsFewer = (s m : List ℕ) (cs : List Call) (w : ℕ) (a : List ℕ) (v : ℕ) (b : List ℕ) → requestOf w .call ≡ Reqbufs → requestOf v .call ≡ Qbuf
+  GrantsFewer = (s : List ℕ) (m : Kind → List ℕ) (cs : List Call) (w : ℕ) (a : List ℕ) (v : ℕ) (b : List ℕ) → requestOf w .call ≡ Reqbufs → requestOf v .call ≡ Qbuf → wordAt b 4 ≡ wordAt a 4
       → wordAt (M s m .request cs w a .argument) 0 ≡ suc (wordAt b 0) → M s m .request (more cs (request w a)) v b .number ≢ 0
 
-  -- the verdict is always the same one
+  -- the verdict on the pictures is always the same one
   abbrev pub ConstantVerdict : Type 0
-  ConstantVerdict = (v : Verdict) × ((s m : List ℕ) (cs : List Call) → M s m .verdict cs ≡ v)
+  ConstantVerdict = (v : Verdict) × ((s : List ℕ) (m : Kind → List ℕ) (cs : List Call) → M s m .verdict cs 1 ≡ v)
 
-  -- every film that is not running is COMPLETE
+  -- every film of one of the streams that is not running is COMPLETE
   abbrev pub AlwaysComplete : Type 0
-  AlwaysComplete = (s m : List ℕ) (cs : List Call) → paperIn s (M s m) cs .running ≡ false → M s m .verdict cs ≡ Complete
+  AlwaysComplete = (k : Kind) × ((s : List ℕ) (m : Kind → List ℕ) (cs : List Call) → paperIn s (M s m) k cs .running ≡ false → M s m .verdict cs (typeOf k) ≡ Complete)
 
-  -- no film is ever COMPLETE
+  -- no film of pictures is ever COMPLETE
   abbrev pub NeverComplete : Type 0
-  NeverComplete = (s m : List ℕ) (cs : List Call) → M s m .verdict cs ≢ Complete
+  NeverComplete = (s : List ℕ) (m : Kind → List ℕ) (cs : List Call) → M s m .verdict cs 1 ≢ Complete
 
-  -- an arrival writes nothing
+  -- an arrival of a picture writes nothing
   abbrev pub IdleArrival : Type 0
-  IdleArrival = (s m : List ℕ) (cs : List Call) (f : List ℕ) (x y : ℕ) (other : List ℕ) → M s m .memory (more cs (arrival f x y other)) ≡ M s m .memory cs
+  IdleArrival = (s : List ℕ) (m : Kind → List ℕ) (cs : List Call) (f : List ℕ) (x y : ℕ) (other : List ℕ) → M s m .memory Kind.pictures (more cs (arrival 1 f x y other)) ≡ M s m .memory Kind.pictures cs
 
-  -- the first stored arrival may write what it likes, and later ones only pretend
+  -- the first stored picture may write what it likes, and later ones only pretend
   abbrev pub LaterPretend : Type 0
-  LaterPretend = (s m : List ℕ) (cs : List Call) (f : List ℕ) (x y : ℕ) (other : List ℕ) (k n : ℕ) (ds : List Call) (g : List ℕ) (u v : ℕ) (lent : List ℕ)
-      → M s m .arrival cs f x y other ≡ Stored k n → M s m .memory (more (cs ++ arrival f x y other ∷ ds) (arrival g u v lent)) ≡ M s m .memory (cs ++ arrival f x y other ∷ ds)
+  LaterPretend = (s : List ℕ) (m : Kind → List ℕ) (cs : List Call) (f : List ℕ) (x y : ℕ) (other : List ℕ) (k n : ℕ) (ds : List Call) (g : List ℕ) (u v : ℕ) (lent : List ℕ)
+      → M s m .arrival cs 1 f x y other ≡ Stored k n
+      → M s m .memory Kind.pictures (more (cs ++ arrival 1 f x y other ∷ ds) (arrival 1 g u v lent)) ≡ M s m .memory Kind.pictures (cs ++ arrival 1 f x y other ∷ ds)
 
-  -- the counts are always the same ones
+  -- the counts of the pictures are always the same ones
   abbrev pub InventedTotals : Type 0
-  InventedTotals = (r : Run) × ((s m : List ℕ) (cs : List Call) → M s m .counts cs ≡ r)
+  InventedTotals = (r : Run) × ((s : List ℕ) (m : Kind → List ℕ) (cs : List Call) → M s m .counts Kind.pictures cs ≡ r)
 
-  -- TRY_FMT returns its question
+  -- TRY_FMT of pictures returns its question
   abbrev pub TryEchoes : Type 0
-  TryEchoes = (s m : List ℕ) (cs : List Call) (t : ℕ) (a : List ℕ) → requestOf t .call ≡ TryFmt → M s m .request cs t a .argument ≡ a
+  TryEchoes = (s : List ℕ) (m : Kind → List ℕ) (cs : List Call) (t : ℕ) (a : List ℕ) → requestOf t .call ≡ TryFmt → wordAt a 0 ≡ 1 → M s m .request cs t a .argument ≡ a
 
   -- an odd width that the grid does not have is refused, by TRY_FMT or by S_FMT
   abbrev pub OddRefused : Asked → Type 0
-  OddRefused call = (s m : List ℕ) (cs : List Call) (w : ℕ) (a : List ℕ) → requestOf w .call ≡ call → wordAt a 4 % 2 ≡ 1
+  OddRefused call = (s : List ℕ) (m : Kind → List ℕ) (cs : List Call) (w : ℕ) (a : List ℕ) → requestOf w .call ≡ call → wordAt a 0 ≡ 1 → wordAt a 4 % 2 ≡ 1
       → ((k : ℕ) → wordAt a 4 ≢ sizeAt (widthsOf s) k) → M s m .request cs w a .number ≢ 0
 
   -- a negative left is raised to zero: G_CROP tells what it would tell if S_CROP had been asked left 0
   abbrev pub LeftRaised : Type 0
-  LeftRaised = (s m : List ℕ) (cs : List Call) (w : ℕ) (a : List ℕ) (v : ℕ) (b : List ℕ) → requestOf w .call ≡ SCrop → requestOf v .call ≡ GCrop
+  LeftRaised = (s : List ℕ) (m : Kind → List ℕ) (cs : List Call) (w : ℕ) (a : List ℕ) (v : ℕ) (b : List ℕ) → requestOf w .call ≡ SCrop → requestOf v .call ≡ GCrop
       → ltZ (signedAt a 4) (pos 0) ≡ true → M s m .request (more cs (request w a)) v b ≡ M s m .request (more cs (request w (leftZero a))) v b
 
-  -- some refused DQBUF moves the counts
+  -- some refused DQBUF moves the counts of a stream
   abbrev pub FailedCounted : Type 0
-  FailedCounted = (s : List ℕ) × (m : List ℕ) × (cs : List Call) × (w : ℕ) × (a : List ℕ) × (requestOf w .call ≡ Dqbuf)
-      × (M s m .request cs w a .number ≢ 0) × (M s m .counts (more cs (request w a)) ≢ M s m .counts cs)
+  FailedCounted = (s : List ℕ) × (m : Kind → List ℕ) × (k : Kind) × (cs : List Call) × (w : ℕ) × (a : List ℕ) × (requestOf w .call ≡ Dqbuf)
+      × (M s m .request cs w a .number ≢ 0) × (M s m .counts k (more cs (request w a)) ≢ M s m .counts k cs)
 
-  -- only stored frames are numbered: damaged and dropped ones do not count
+  -- only stored pictures are numbered: damaged and dropped ones do not count
   abbrev pub StoredNumbered : Type 0
-  StoredNumbered = (s m : List ℕ) (cs : List Call) (f : List ℕ) (x y : ℕ) (other : List ℕ) (k n : ℕ) → M s m .arrival cs f x y other ≡ Stored k n
-      → n ≡ M s m .counts cs .accepted - (M s m .counts cs .damaged + M s m .counts cs .dropped)
+  StoredNumbered = (s : List ℕ) (m : Kind → List ℕ) (cs : List Call) (f : List ℕ) (x y : ℕ) (other : List ℕ) (k n : ℕ) → M s m .arrival cs 1 f x y other ≡ Stored k n
+      → n ≡ M s m .counts Kind.pictures cs .accepted - (M s m .counts Kind.pictures cs .damaged + M s m .counts Kind.pictures cs .dropped)
 
-  -- the youngest outgoing buffer is handed over first: a DQBUF right behind a stored arrival answers the buffer of that one
+  -- the youngest outgoing buffer is handed over first: a DQBUF right behind a stored picture answers the buffer of that one
   abbrev pub YoungestFirst : Type 0
-  YoungestFirst = (s m : List ℕ) (cs : List Call) (f : List ℕ) (x y : ℕ) (other : List ℕ) (k n w : ℕ) (a : List ℕ) → M s m .arrival cs f x y other ≡ Stored k n
-      → requestOf w .call ≡ Dqbuf → M s m .request (more cs (arrival f x y other)) w a .number ≡ 0
-      → wordAt (M s m .request (more cs (arrival f x y other)) w a .argument) 0 ≡ k
+  YoungestFirst = (s : List ℕ) (m : Kind → List ℕ) (cs : List Call) (f : List ℕ) (x y : ℕ) (other : List ℕ) (k n w : ℕ) (a : List ℕ) → M s m .arrival cs 1 f x y other ≡ Stored k n
+      → requestOf w .call ≡ Dqbuf → wordAt a 4 ≡ 1 → M s m .request (more cs (arrival 1 f x y other)) w a .number ≡ 0
+      → wordAt (M s m .request (more cs (arrival 1 f x y other)) w a .argument) 0 ≡ k
 
-  -- some DQBUF is answered 11 though the run was ended and none begun since: who reads that as "soon" polls for ever
+  -- some DQBUF is answered 11 though the run of its stream was ended and none begun since: who reads that as "soon" polls for ever
   abbrev pub SoonWhenStopped : Type 0
-  SoonWhenStopped = (s : List ℕ) × (m : List ℕ) × (cs : List Call) × (w : ℕ) × (a : List ℕ) × InForce (M s m) Ends Starts cs × (requestOf w .call ≡ Dqbuf)
+  SoonWhenStopped = (s : List ℕ) × (m : Kind → List ℕ) × (k : Kind) × (cs : List Call) × (w : ℕ) × (a : List ℕ) × InForce (M s m) k Ends Starts cs × (requestOf w .call ≡ Dqbuf)
+      × (wordAt a 4 ≡ typeOf k)
       × (M s m .request cs w a .number ≡ 11)
 
   -- no DQBUF is ever answered 11: an idle device passes for a stopped one
   abbrev pub NeverSoon : Type 0
-  NeverSoon = (s m : List ℕ) (cs : List Call) (w : ℕ) (a : List ℕ) → requestOf w .call ≡ Dqbuf → M s m .request cs w a .number ≢ 11
+  NeverSoon = (s : List ℕ) (m : Kind → List ℕ) (cs : List Call) (w : ℕ) (a : List ℕ) → requestOf w .call ≡ Dqbuf → M s m .request cs w a .number ≢ 11
 
   -- an unknown word gives 22, like a known one with a wrong argument
   abbrev pub UnknownInvalid : Type 0
-  UnknownInvalid = (s m : List ℕ) (cs : List Call) (w : ℕ) (a : List ℕ) → requestOf w .call ≡ Unknown → M s m .request cs w a .number ≡ 22
+  UnknownInvalid = (s : List ℕ) (m : Kind → List ℕ) (cs : List Call) (w : ℕ) (a : List ℕ) → requestOf w .call ≡ Unknown → M s m .request cs w a .number ≡ 22
+
+  -- ---- of two streams
+
+  -- some QBUF of captions puts its index among the pictures: one of pictures was accepted before it, and is not behind it
+  abbrev pub StreamsMixed : Type 0
+  StreamsMixed = (s : List ℕ) × (m : Kind → List ℕ) × (cs : List Call) × (w : ℕ) × (a : List ℕ) × (v : ℕ) × (b : List ℕ)
+      × (requestOf w .call ≡ Qbuf) × (wordAt a 4 ≡ 6) × (requestOf v .call ≡ Qbuf) × (wordAt b 4 ≡ 1)
+      × (M s m .request cs v b .number ≡ 0) × (M s m .request (more cs (request w a)) v b .number ≢ 0)
+
+  -- some S_FMT of captions is refused with 16 though they have no buffers
+  abbrev pub HeldUp : Type 0
+  HeldUp = (s : List ℕ) × (m : Kind → List ℕ) × (cs : List Call) × (w : ℕ) × (a : List ℕ) × (requestOf w .call ≡ SFmt) × (wordAt a 0 ≡ 6)
+      × (paperIn s (M s m) Kind.captions cs .granted ≡ 0) × (M s m .request cs w a .number ≡ 16)
+
+  -- some caption frame is stored in which two records name the same line of the same field
+  abbrev pub TwiceTaken : Type 0
+  TwiceTaken = (s : List ℕ) × (m : Kind → List ℕ) × (cs : List Call) × (f : List ℕ) × (x : ℕ) × (y : ℕ) × (other : List ℕ) × (i : ℕ) × (j : ℕ) × (k : ℕ) × (n : ℕ)
+      × (i < j) × (j < length f / 64) × (placeAt f i ≡ placeAt f j) × (M s m .arrival cs 6 f x y other ≡ Stored k n)
+
+  -- some arrival is accepted that is of another type than the streams have
+  abbrev pub AllTypes : Type 0
+  AllTypes = (s : List ℕ) × (m : Kind → List ℕ) × (cs : List Call) × (t : ℕ) × (f : List ℕ) × (x : ℕ) × (y : ℕ) × (other : List ℕ)
+      × (t ≢ 1) × (t ≢ 6) × (arrivalNumber (M s m .arrival cs t f x y other) ≡ 0)
+
+  -- one verdict is told for both
+  abbrev pub OneVerdict : Type 0
+  OneVerdict = (s : List ℕ) (m : Kind → List ℕ) (cs : List Call) → M s m .verdict cs 1 ≡ M s m .verdict cs 6
 
 -- a fault that no machine has which meets the demands
 abbrev pub Out : (Machine → Type 0) → Type 0
@@ -139,3 +171,8 @@ pub record ShutOut : Type 0 where
   pub soon-when-stopped : Out SoonWhenStopped
   pub never-soon : Out NeverSoon
   pub unknown-invalid : Out UnknownInvalid
+  pub streams-mixed : Out StreamsMixed
+  pub held-up : Out HeldUp
+  pub twice-taken : Out TwiceTaken
+  pub all-types : Out AllTypes
+  pub one-verdict : Out OneVerdict

@@ -3,7 +3,7 @@ use Prim.Native.Nat.{ℕ, zero, suc, _+_, _-_, _%_}
 use mathlib.Core.Bool.{cond, not, _&&_}
 use mathlib.Core.List.{List, [], _∷_, map}
 use lib.Dec.{eqb}
-use lib.ListN.{replicate, drop}
+use lib.ListN.{replicate, take, drop}
 use lib.Seq.{sets}
 use lib.IntN.{pos}
 use lib.Signed.{ltZ}
@@ -11,22 +11,23 @@ use Rattle.wire_read.specs.Words.{wordAt}
 use Rattle.wire_signed.specs.Signed.{signedAt}
 use Rattle.ioctl_table.specs.Table.{requestOf}
 use Rattle.ioctl_table.specs.declared.table.Call.{Call as Asked}
-use Rattle.ioctl_table.specs.declared.table.Call.the-variants.{Unknown, Querycap, EnumFmt, GFmt, SFmt, TryFmt, Reqbufs, Querybuf, Qbuf, Dqbuf, Streamon, Streamoff, GCtrl, SCtrl, Queryctrl, Cropcap, GCrop, SCrop}
+use Rattle.ioctl_table.specs.declared.table.Call.the-variants.{Unknown, Querycap, EnumFmt, GFmt, SFmt, TryFmt, Reqbufs, Querybuf, Qbuf, Dqbuf, Streamon, Streamoff, GCtrl, SCtrl, Queryctrl, Cropcap, GCrop, SCrop, GSlicedVbiCap}
 use Rattle.stream_slots.specs.Slot.{slotOffset}
+use Rattle.stream_words.specs.Lists.{any}
 use Rattle.stream_words.specs.Stream.{Run}
 use Rattle.stream_run.specs.Stream.{freshRun}
 use Rattle.stream_arrival.specs.declared.Arrival.{Arrival}
 use Rattle.stream_arrival.specs.declared.Arrival.the-variants.{Refused, Ignored, Damaged, Dropped, Stored}
 use Rattle.stream_verdict.specs.declared.Verdict.{Verdict}
 use Rattle.stream_verdict.specs.declared.Verdict.the-variants.{Running, Blank, Gaps, Complete}
-use Rattle.claims.specs.Calls.{Call, Reply}
+use Rattle.stream_history.specs.Paper.{Paper}
+use Rattle.claims.specs.Calls.{Kind, typeOf, Call}
 use Rattle.claims.specs.Calls.Call.{request, arrival}
-use Rattle.claims.specs.Calls.Reply.{answered, taken}
-use Rattle.claims.specs.Machine.{Session, Machine, Given, more, replyIn}
+use Rattle.claims.specs.Machine.{Session, Machine, Given, more}
 use Rattle.claims.specs.Words.{paperIn}
 use Rattle.claims.specs.Meets.{Meets}
 use Rattle.claims.specs.Device.{machineOf, ourDevice}
-use Rattle.claims_shut_out.specs.Faults.{leftZero, NeverOpens, AllRefusing, GrantsNone, GrantsFewer, ConstantVerdict, AlwaysComplete, NeverComplete, IdleArrival, LaterPretend, InventedTotals, TryEchoes, OddRefused, LeftRaised, FailedCounted, StoredNumbered, YoungestFirst, SoonWhenStopped, NeverSoon, UnknownInvalid}
+use Rattle.claims_shut_out.specs.Faults.{leftZero, NeverOpens, AllRefusing, GrantsNone, GrantsFewer, ConstantVerdict, AlwaysComplete, NeverComplete, IdleArrival, LaterPretend, InventedTotals, TryEchoes, OddRefused, LeftRaised, FailedCounted, StoredNumbered, YoungestFirst, SoonWhenStopped, NeverSoon, UnknownInvalid, StreamsMixed, HeldUp, TwiceTaken, AllTypes, OneVerdict}
 
 -- our device
 abbrev pub ours : Machine
@@ -59,7 +60,7 @@ module _ (S : Session) where
     plane = S .plane;
   }
 
-  abbrev pub withArrival : (List Call → List ℕ → ℕ → ℕ → List ℕ → Arrival) → Session
+  abbrev pub withArrival : (List Call → ℕ → List ℕ → ℕ → ℕ → List ℕ → Arrival) → Session
   withArrival g = record {
     opening = S .opening;
     request = S .request;
@@ -72,7 +73,7 @@ module _ (S : Session) where
   }
 
   -- the memory, the verdict and the counts: what is read and no answer
-  abbrev pub telling : (List Call → List ℕ) → (List Call → Verdict) → (List Call → Run) → Session
+  abbrev pub telling : (Kind → List Call → List ℕ) → (List Call → ℕ → Verdict) → (Kind → List Call → Run) → Session
   telling memory verdict counts = record {
     opening = S .opening;
     request = S .request;
@@ -104,6 +105,7 @@ place Queryctrl = 14
 place Cropcap = 15
 place GCrop = 16
 place SCrop = 17
+place GSlicedVbiCap = 18
 
 -- one call answered otherwise: by its argument and by what it was answered
 abbrev pub only : Asked → (List ℕ → Given → Given) → Asked → List ℕ → Given → Given
@@ -144,9 +146,9 @@ echoed a r = record { number = r .number; argument = a }
 abbrev pub tryEchoes : Machine
 tryEchoes = answering TryFmt echoed
 
--- an odd width is refused
+-- an odd width of pictures is refused
 abbrev pub oddOut : List ℕ → Given → Given
-oddOut a r = cond (eqb (wordAt a 4 % 2) 1) (refused a r) r
+oddOut a r = cond (eqb (wordAt a 0) 1 && eqb (wordAt a 4 % 2) 1) (refused a r) r
 
 abbrev pub oddTried : Machine
 oddTried = answering TryFmt oddOut
@@ -157,30 +159,35 @@ oddSet = answering SFmt oddOut
 -- a call as it is taken: an S_CROP of a negative left is one of left 0
 abbrev pub raised : Call → Call
 raised (request w a) = request w (cond (eqb (place (requestOf w .call)) (place SCrop) && ltZ (signedAt a 4) (pos 0)) (leftZero a) a)
-raised (arrival f x y other) = arrival f x y other
+raised (arrival t f x y other) = arrival t f x y other
 
 abbrev pub leftRaised : Machine
 leftRaised s m = withRequest (ours s m) (λ cs w a. ours s m .request (map raised cs) w a)
 
--- the buffer that a reply says was filled, else k
-abbrev pub filledBy : Reply → ℕ → ℕ
-filledBy (answered n b) k = k
-filledBy (taken (Refused why)) k = k
-filledBy (taken Ignored) k = k
-filledBy (taken Damaged) k = k
-filledBy (taken Dropped) k = k
-filledBy (taken (Stored j n)) k = j
+-- the buffer that an arrival was stored in, else k
+abbrev pub storedBy : Arrival → ℕ → ℕ
+storedBy (Refused why) k = k
+storedBy Ignored k = k
+storedBy Damaged k = k
+storedBy Dropped k = k
+storedBy (Stored j n) k = j
 
--- the buffer that was filled last by calls made after h, k if none was
-abbrev pub youngest : Session → List Call → List Call → ℕ → ℕ
-youngest S h [] k = k
-youngest S h (c ∷ cs) k = youngest S (more h c) cs (filledBy (replyIn S h c) k)
+-- the buffer that a call filled of the stream of this type, else k
+abbrev pub filledBy : ℕ → Session → List Call → Call → ℕ → ℕ
+filledBy t S h (request w a) k = k
+filledBy t S h (arrival u f x y other) k = cond (eqb u t) (storedBy (S .arrival h u f x y other) k) k
 
--- an accepted DQBUF answers that buffer; an index, below 32, is one byte
+-- the buffer of it that was filled last by calls made after h, k if none was
+abbrev pub youngest : ℕ → Session → List Call → List Call → ℕ → ℕ
+youngest t S h [] k = k
+youngest t S h (c ∷ cs) k = youngest t S (more h c) cs (filledBy t S h c k)
+
+-- a DQBUF that is answered that buffer; an index, below 32, is one byte
+abbrev pub youngestIn : Session → List Call → List ℕ → Given → Given
+youngestIn S cs a r = record { number = r .number; argument = youngest (wordAt a 4) S [] cs 0 ∷ 0 ∷ 0 ∷ 0 ∷ drop 4 (r .argument) }
+
 abbrev pub youngestFirst : Machine
-youngestFirst s m =
-    let S : Session = ours s m in
-    withRequest S (λ cs w a. only Dqbuf (λ b r. record { number = r .number; argument = youngest S [] cs 0 ∷ 0 ∷ 0 ∷ 0 ∷ drop 4 (r .argument) }) (requestOf w .call) a (S .request cs w a))
+youngestFirst s m = withRequest (ours s m) (λ cs w a. only Dqbuf (youngestIn (ours s m) cs) (requestOf w .call) a (ours s m .request cs w a))
 
 -- a DQBUF that ours refuses with 22 is answered 11
 abbrev pub putOff : List ℕ → Given → Given
@@ -203,7 +210,7 @@ unknownInvalid = answering Unknown refused
 -- ---- the verdict and the counts
 
 abbrev pub judging : (Verdict → Verdict) → Machine
-judging g s m = telling (ours s m) (ours s m .memory) (λ cs. g (ours s m .verdict cs)) (ours s m .counts)
+judging g s m = telling (ours s m) (ours s m .memory) (λ cs t. g (ours s m .verdict cs t)) (ours s m .counts)
 
 -- the film is always the same
 abbrev pub alwaysRunning : Machine
@@ -238,19 +245,20 @@ blamed Complete = Gaps
 abbrev pub neverComplete : Machine
 neverComplete = judging blamed
 
-abbrev pub counting : (Session → List Call → Run) → Machine
+abbrev pub counting : (Session → Kind → List Call → Run) → Machine
 counting g s m = telling (ours s m) (ours s m .memory) (ours s m .verdict) (g (ours s m))
 
 -- nothing is ever counted
 abbrev pub uncounted : Machine
-uncounted = counting (λ S cs. freshRun 0)
+uncounted = counting (λ S k cs. freshRun 0)
 
--- how many refused DQBUFs there are among calls made after h
-abbrev pub failedIn : Session → List Call → List Call → ℕ
-failedIn S h [] = 0
-failedIn S h (request w a ∷ cs) =
-    cond (eqb (place (requestOf w .call)) (place Dqbuf) && not (eqb (S .request h w a .number) 0)) 1 0 + failedIn S (more h (request w a)) cs
-failedIn S h (arrival f x y other ∷ cs) = failedIn S (more h (arrival f x y other)) cs
+-- how many refused DQBUFs of a stream there are among calls made after h
+abbrev pub failedIn : Session → Kind → List Call → List Call → ℕ
+failedIn S k h [] = 0
+failedIn S k h (request w a ∷ cs) =
+    cond (eqb (place (requestOf w .call)) (place Dqbuf) && (eqb (wordAt a 4) (typeOf k) && not (eqb (S .request h w a .number) 0))) 1 0
+    + failedIn S k (more h (request w a)) cs
+failedIn S k h (arrival t f x y other ∷ cs) = failedIn S k (more h (arrival t f x y other)) cs
 
 -- they count as handed over
 abbrev pub withFailed : Run → ℕ → Run
@@ -258,11 +266,11 @@ withFailed r n =
     record { ran = r .ran; accepted = r .accepted; handed = r .handed + n; damaged = r .damaged; dropped = r .dropped; discarded = r .discarded }
 
 abbrev pub failedCounted : Machine
-failedCounted = counting (λ S cs. withFailed (S .counts cs) (failedIn S [] cs))
+failedCounted = counting (λ S k cs. withFailed (S .counts k cs) (failedIn S k [] cs))
 
 -- ---- arrivals
 
--- a stored frame gets the count of those stored before it in its run
+-- a stored picture gets the count of those stored before it in its run
 abbrev pub renumbered : Arrival → Run → Arrival
 renumbered (Refused why) r = Refused why
 renumbered Ignored r = Ignored
@@ -271,10 +279,16 @@ renumbered Dropped r = Dropped
 renumbered (Stored k n) r = Stored k (r .accepted - (r .damaged + r .dropped))
 
 abbrev pub storedNumbered : Machine
-storedNumbered s m = withArrival (ours s m) (λ cs f x y other. renumbered (ours s m .arrival cs f x y other) (ours s m .counts cs))
+storedNumbered s m =
+    withArrival (ours s m) (λ cs t f x y other. cond (eqb t 1) (renumbered (ours s m .arrival cs t f x y other) (ours s m .counts Kind.pictures cs)) (ours s m .arrival cs t f x y other))
+
+-- another memory of pictures
+abbrev pub pictured : (List Call → List ℕ) → (List Call → List ℕ) → Kind → List Call → List ℕ
+pictured x y Kind.pictures = x
+pictured x y Kind.captions = y
 
 abbrev pub writing : (List ℕ → Session → List ℕ → List Call → List ℕ) → Machine
-writing g s m = telling (ours s m) (g s (ours s m) m) (ours s m .verdict) (ours s m .counts)
+writing g s m = telling (ours s m) (pictured (g s (ours s m) (m Kind.pictures)) (ours s m .memory Kind.captions)) (ours s m .verdict) (ours s m .counts)
 
 -- nothing is ever written
 abbrev pub idle : Machine
@@ -293,15 +307,48 @@ ifStored Damaged m n = n
 ifStored Dropped m n = n
 ifStored (Stored k j) m n = m
 
--- the first stored arrival fills every buffer, and no other writes; calls made after h
+-- the first stored picture fills every buffer, and no other writes; calls made after h
 abbrev pub filledOnce : List ℕ → Session → List ℕ → List Call → List Call → List ℕ
 filledOnce s S m h [] = m
 filledOnce s S m h (request w a ∷ cs) = filledOnce s S m (more h (request w a)) cs
-filledOnce s S m h (arrival f x y other ∷ cs) =
-    ifStored (S .arrival h f x y other) (flooded (paperIn s S h .granted) (paperIn s S h .size) m f) (filledOnce s S m (more h (arrival f x y other)) cs)
+filledOnce s S m h (arrival t f x y other ∷ cs) =
+    let later : List ℕ = filledOnce s S m (more h (arrival t f x y other)) cs in
+    cond (eqb t 1) (ifStored (S .arrival h t f x y other) (flooded (paperIn s S Kind.pictures h .granted) (paperIn s S Kind.pictures h .size) m f) later) later
 
 abbrev pub laterPretend : Machine
 laterPretend = writing (λ s S m cs. filledOnce s S m [] cs)
+
+-- ---- two streams
+
+-- a QBUF of pictures is refused where the captions have that index waiting
+abbrev pub alsoWaiting : Paper → List ℕ → Given → Given
+alsoWaiting p a r = cond (eqb (wordAt a 4) 1 && any (λ x. eqb x (wordAt a 0)) (p .incoming)) (refused a r) r
+
+abbrev pub streamsMixed : Machine
+streamsMixed s m =
+    withRequest (ours s m) (λ cs w a. only Qbuf (alsoWaiting (paperIn s (ours s m) Kind.captions cs)) (requestOf w .call) a (ours s m .request cs w a))
+
+-- an S_FMT of captions that ours accepts is refused with 16 where the pictures have buffers
+abbrev pub busy : Paper → List ℕ → Given → Given
+busy p a r = cond (eqb (wordAt a 0) 6 && (eqb (r .number) 0 && not (eqb (p .granted) 0))) (record { number = 16; argument = a }) r
+
+abbrev pub heldUp : Machine
+heldUp s m = withRequest (ours s m) (λ cs w a. only SFmt (busy (paperIn s (ours s m) Kind.pictures cs)) (requestOf w .call) a (ours s m .request cs w a))
+
+-- of a caption frame only the first record is looked at
+abbrev pub firstRecord : ℕ → List ℕ → List ℕ
+firstRecord t f = cond (eqb t 6) (take 64 f) f
+
+abbrev pub twiceTaken : Machine
+twiceTaken s m = withArrival (ours s m) (λ cs t f x y other. ours s m .arrival cs t (firstRecord t f) x y other)
+
+-- what is no caption frame is a picture
+abbrev pub allTypes : Machine
+allTypes s m = withArrival (ours s m) (λ cs t f x y other. ours s m .arrival cs (cond (eqb t 6) 6 1) f x y other)
+
+-- the verdict on the captions is told for both
+abbrev pub oneVerdict : Machine
+oneVerdict s m = telling (ours s m) (ours s m .memory) (λ cs t. ours s m .verdict cs 6) (ours s m .counts)
 
 -- a device that has the fault, and does not meet the demands
 abbrev pub Wrong : (Machine → Type 0) → Machine → Type 0
@@ -331,3 +378,8 @@ pub record WrongDevices : Type 0 where
   pub soon-when-stopped : Wrong SoonWhenStopped soonWhenStopped
   pub never-soon : Wrong NeverSoon neverSoon
   pub unknown-invalid : Wrong UnknownInvalid unknownInvalid
+  pub streams-mixed : Wrong StreamsMixed streamsMixed
+  pub held-up : Wrong HeldUp heldUp
+  pub twice-taken : Wrong TwiceTaken twiceTaken
+  pub all-types : Wrong AllTypes allTypes
+  pub one-verdict : Wrong OneVerdict oneVerdict

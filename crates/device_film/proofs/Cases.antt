@@ -1,54 +1,58 @@
 -- What the definitions of specs/ say in each case.
 use Prim.Native.Nat.{ℕ}
-use mathlib.Core.Bool.{Bool}
 use mathlib.Core.List.{List}
-use mathlib.Core.Path.{_≡_}
+use mathlib.Core.Path.{_≡_, refl}
 use lib.ListN.{length}
 use borrow.Author.Tests.{eq-eqb, ne-eqb}
 use Rattle.ioctl_table.specs.Refusal.{errnoOf}
-use Rattle.ioctl_table.specs.declared.refusals.Refusal.the-variants.{Closed}
+use Rattle.ioctl_table.specs.declared.refusals.Refusal.the-variants.{Closed, WrongType}
 use Rattle.stream_words.specs.declared.Time.{Time}
 use Rattle.sheet_geometry.specs.Geometry.{lineAlignment}
 use Rattle.plane_rules.specs.declared.Place.{Place}
 use Rattle.plane_rules.specs.Planes.{planeOf}
+use Rattle.stream_arrival.specs.declared.Arrival.{Arrival}
 use Rattle.stream_arrival.specs.declared.Arrival.the-variants.{Refused}
-use Rattle.stream_arrival.specs.Arrivals.{Arrived, arrivalOf, writtenBy}
-use Rattle.picture_rules.specs.Picture.{wholePicture}
-use Rattle.device_state.specs.State.{State, withStream}
-use Rattle.device_film.specs.Film.{takenOf, takenMemory, devicePlace}
+use Rattle.stream_arrival.specs.Arrivals.{Arrived, writtenBy}
+use Rattle.service_rules.specs.Negotiation.{ioSize}
+use Rattle.device_state.specs.State.{State, withVideo, withCaptions}
+use Rattle.device_film.specs.Film.{taken, takenOf, takenMemory, pictureArrives, captionsArrive, devicePlace}
 
--- a closed device
-module _ (d : State) (h : d .ready ≡ 0) where
-  -- refuses an arrival
-  pub taken-closed : (lent n : ℕ) (t : Time) → record { arrival = Refused Closed; state = d } ≡ takenOf d lent n t
-  unfolding takenOf
-  taken-closed lent n t = simp (eq-eqb (d .ready) 0 h)
+-- an arrival: its answer and the state after it, and the memory that it leaves
+module _ (d : State) (kind : ℕ) (m f : List ℕ) (t : Time) where
+  -- as the definitions have them
+  abbrev pub Arrives : Arrival → State → List ℕ → Type 0
+  Arrives r e m' = (taken r e ≡ takenOf d kind (length m) f t) × (m' ≡ takenMemory d kind m f t)
 
-  -- and leaves the memory as it was
-  pub memory-closed : (m f : List ℕ) (t : Time) → m ≡ takenMemory d m f t
+  -- at a closed device
+  pub arrives-closed : d .ready ≡ 0 → Arrives (Refused Closed) d m
   unfolding takenOf takenMemory
-  memory-closed m f t = simp (eq-eqb (d .ready) 0 h)
+  arrives-closed h = rw (eq-eqb (d .ready) 0 h) (refl, refl)
 
-  -- has no planes
-  pub plane-closed : (s : List ℕ) (n k : ℕ) {e : ℕ} → e ≡ errnoOf Closed → record { number = e; start = 0; length = 0 } ≡ devicePlace s d n k
-  unfolding devicePlace
-  plane-closed s n k q = rw (eq-eqb (d .ready) 0 h, q)
+  -- at an open one; r and m' are what the stream answers and leaves
+  module _ (h : d .ready ≡ 0 → ⊥) {r : Arrived} {m' : List ℕ} where
+    -- a picture
+    pub arrives-picture : kind ≡ 1 → r ≡ pictureArrives d (length m) f t → m' ≡ writtenBy (r .arrival) (d .size) m f
+        → Arrives (r .arrival) (withVideo d (r .stream)) m'
+    unfolding takenOf takenMemory
+    arrives-picture k q e = rw (ne-eqb (d .ready) 0 h, eq-eqb kind 1 k, ← q) (refl, e)
 
--- an open device
-module _ (d : State) (h : d .ready ≡ 0 → ⊥) where
-  -- answers as the stream does; w and r are what the code was told
-  pub taken-open : (lent n : ℕ) (t : Time) {w : Bool} {r : Arrived} → w ≡ wholePicture n (d .size) t → r ≡ arrivalOf (d .stream) lent n w (d .size) t
-      → record { arrival = r .arrival; state = withStream d (r .stream) } ≡ takenOf d lent n t
-  unfolding takenOf
-  taken-open lent n t g q = rw (ne-eqb (d .ready) 0 h, q, g)
+    -- captions
+    pub arrives-captions : (kind ≡ 1 → ⊥) → kind ≡ 6 → r ≡ captionsArrive d (length m) f t → m' ≡ writtenBy (r .arrival) (ioSize (d .services)) m f
+        → Arrives (r .arrival) (withCaptions d (r .stream)) m'
+    unfolding takenOf takenMemory
+    arrives-captions n k q e = rw (ne-eqb (d .ready) 0 h, ne-eqb kind 1 n, eq-eqb kind 6 k, ← q) (refl, e)
 
-  -- and leaves m', the memory that the stream leaves
-  pub memory-open : (m f : List ℕ) (t : Time) {w : Bool} {m' : List ℕ} → w ≡ wholePicture (length f) (d .size) t
-      → m' ≡ writtenBy (arrivalOf (d .stream) (length m) (length f) w (d .size) t .arrival) (d .size) m f → m' ≡ takenMemory d m f t
+  -- of another type
+  pub arrives-other : (d .ready ≡ 0 → ⊥) → (kind ≡ 1 → ⊥) → (kind ≡ 6 → ⊥) → Arrives (Refused WrongType) d m
   unfolding takenOf takenMemory
-  memory-open m f t g q = rw (ne-eqb (d .ready) 0 h, q, g)
+  arrives-other h n k = rw (ne-eqb (d .ready) 0 h, ne-eqb kind 1 n, ne-eqb kind 6 k) (refl, refl)
 
-  -- has the planes of its format; a and p are what the code was told
-  pub plane-open : (s : List ℕ) (n k : ℕ) {a : ℕ} {p : Place} → a ≡ lineAlignment s → p ≡ planeOf (d .format) a n k → p ≡ devicePlace s d n k
-  unfolding devicePlace
-  plane-open s n k e q = rw (ne-eqb (d .ready) 0 h, q, e)
+-- a closed device has no planes
+pub plane-closed : (d : State) (h : d .ready ≡ 0) (s : List ℕ) (n k : ℕ) {e : ℕ} → e ≡ errnoOf Closed → record { number = e; start = 0; length = 0 } ≡ devicePlace s d n k
+unfolding devicePlace
+plane-closed d h s n k q = rw (eq-eqb (d .ready) 0 h, q)
+
+-- an open one those of its format; a and p are what the code was told
+pub plane-open : (d : State) (h : d .ready ≡ 0 → ⊥) (s : List ℕ) (n k : ℕ) {a : ℕ} {p : Place} → a ≡ lineAlignment s → p ≡ planeOf (d .format) a n k → p ≡ devicePlace s d n k
+unfolding devicePlace
+plane-open d h s n k e q = rw (ne-eqb (d .ready) 0 h, q, e)

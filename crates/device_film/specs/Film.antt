@@ -1,10 +1,10 @@
--- Frame arrivals, the verdict, and planes. A closed device refuses the first and the last, and its film is blank.
+-- Frame arrivals, the verdicts, and planes. A closed device refuses the first and the last, and its films are blank.
 use Prim.Native.Nat.{ℕ}
 use mathlib.Core.Bool.{cond}
 use mathlib.Core.List.{List}
 use lib.Dec.{eqb}
 use lib.ListN.{length}
-use Rattle.ioctl_table.specs.declared.refusals.Refusal.the-variants.{Closed}
+use Rattle.ioctl_table.specs.declared.refusals.Refusal.the-variants.{Closed, WrongType}
 use Rattle.stream_words.specs.declared.Time.{Time}
 use Rattle.sheet_geometry.specs.Geometry.{lineAlignment}
 use Rattle.plane_rules.specs.declared.Place.{Place}
@@ -13,10 +13,12 @@ use Rattle.stream_arrival.specs.declared.Arrival.the-variants.{Refused}
 use Rattle.stream_arrival.specs.declared.Arrival.{Arrival}
 use Rattle.stream_arrival.specs.Arrivals.{Arrived, arrivalOf, writtenBy}
 use Rattle.picture_rules.specs.Picture.{wholePicture}
+use Rattle.service_rules.specs.Negotiation.{ioSize}
+use Rattle.caption_rules.specs.Caption.{wholeCaption}
 use Rattle.stream_verdict.specs.declared.Verdict.{Verdict}
 use Rattle.stream_verdict.specs.declared.Verdict.the-variants.{Blank}
 use Rattle.stream_verdict.specs.Film.{verdictOf}
-use Rattle.device_state.specs.State.{State, withStream}
+use Rattle.device_state.specs.State.{State, withVideo, withCaptions}
 
 -- the answer to an arrival, and the state after it
 pub record Taken : Type 0 where
@@ -26,23 +28,33 @@ pub record Taken : Type 0 where
 abbrev pub taken : Arrival → State → Taken
 taken a d = record { arrival = a; state = d }
 
--- a picture arrives at the stream: whole if it has the image size and its microseconds are in 0..999,999
-abbrev pub pictureArrives : State → ℕ → ℕ → Time → Arrived
-pictureArrives d lent n t = arrivalOf (d .stream) lent n (wholePicture n (d .size) t) (d .size) t
+-- a picture arrives at its stream: whole if it has the image size and its microseconds are in 0..999,999
+abbrev pub pictureArrives : State → ℕ → List ℕ → Time → Arrived
+pictureArrives d lent f t = arrivalOf (d .video) lent (length f) (wholePicture (length f) (d .size) t) (d .size) t
 
--- what an arrival of n bytes answers and leaves
-unfoldable pub takenOf : State → ℕ → ℕ → Time → Taken
-takenOf d lent n t =
+-- captions arrive at theirs: whole by their records and the services in force; the io size is the frame size
+abbrev pub captionsArrive : State → ℕ → List ℕ → Time → Arrived
+captionsArrive d lent f t = arrivalOf (d .captions) lent (length f) (wholeCaption (d .services) f t) (ioSize (d .services)) t
+
+-- what an arrival of a type answers and leaves: closed, another type than 1 and 6; then its stream's own tests
+unfoldable pub takenOf : State → ℕ → ℕ → List ℕ → Time → Taken
+takenOf d kind lent f t =
     cond (eqb (d .ready) 0) (taken (Refused Closed) d)
-    (taken (pictureArrives d lent n t .arrival) (withStream d (pictureArrives d lent n t .stream)))
+    (cond (eqb kind 1) (taken (pictureArrives d lent f t .arrival) (withVideo d (pictureArrives d lent f t .stream)))
+    (cond (eqb kind 6) (taken (captionsArrive d lent f t .arrival) (withCaptions d (captionsArrive d lent f t .stream)))
+    (taken (Refused WrongType) d)))
+
+-- the size of the frames of a type
+abbrev pub frameSize : State → ℕ → ℕ
+frameSize d kind = cond (eqb kind 1) (d .size) (ioSize (d .services))
 
 -- what it leaves of the memory: only a stored one writes
-unfoldable pub takenMemory : State → List ℕ → List ℕ → Time → List ℕ
-takenMemory d m f t = writtenBy (takenOf d (length m) (length f) t .arrival) (d .size) m f
+unfoldable pub takenMemory : State → ℕ → List ℕ → List ℕ → Time → List ℕ
+takenMemory d kind m f t = writtenBy (takenOf d kind (length m) f t .arrival) (frameSize d kind) m f
 
--- the verdict
-unfoldable pub deviceVerdict : State → Verdict
-deviceVerdict d = cond (eqb (d .ready) 0) Blank (verdictOf (d .stream))
+-- the verdict on the film of a type
+unfoldable pub deviceVerdict : State → ℕ → Verdict
+deviceVerdict d kind = cond (eqb (d .ready) 0) Blank (cond (eqb kind 1) (verdictOf (d .video)) (cond (eqb kind 6) (verdictOf (d .captions)) Blank))
 
 -- where plane k of a frame of n bytes lies
 unfoldable pub devicePlace : List ℕ → State → ℕ → ℕ → Place

@@ -4,6 +4,6 @@ use Rattle.stream_verdict.specs.Film.{verdictNumber}
 use Rattle.device_state.specs.State.{State}
 use Rattle.device_film.specs.Film.{deviceVerdict}
 
--- the number of the device's verdict
-abbrev pub verdictTold : State → ℕ
-verdictTold d = verdictNumber (deviceVerdict d)
+-- the number of the device's verdict on the film of a type
+abbrev pub verdictTold : State → ℕ → ℕ
+verdictTold d kind = verdictNumber (deviceVerdict d kind)

@@ -11,18 +11,24 @@ use Rattle.device_state.specs.State.{openingState}
 use Rattle.device_opening.specs.Opening.{closedBy, openedOf, longestMemory}
 
 -- an opening: g is what the code found of the sheet
-module _ (s : List ℕ) (n : ℕ) {g : Bool} (e : g ≡ goodSheet s) where
+module _ (s : List ℕ) (n m : ℕ) {g : Bool} (e : g ≡ goodSheet s) where
   -- a bad sheet
-  pub opened-bad : not g ≡ true → closedBy BadSheet ≡ openedOf s n
+  pub opened-bad : not g ≡ true → closedBy BadSheet ≡ openedOf s n m
   unfolding openedOf
   opened-bad h = rw (← e, h)
 
-  -- too much memory
-  pub opened-long : not g ≡ false → longestMemory < n → closedBy MemoryTooLong ≡ openedOf s n
+  -- too much memory for pictures
+  pub opened-long : not g ≡ false → longestMemory < n → closedBy MemoryTooLong ≡ openedOf s n m
   unfolding openedOf
   opened-long h l = rw (← e, h, lt-ltb longestMemory n l)
 
-  -- a good sheet
-  pub opened-good : not g ≡ false → n ≤ longestMemory → record { number = 0; device = record { sheet = keptOf s; state = openingState (keptOf s) n } } ≡ openedOf s n
+  -- for captions
+  pub opened-longer : not g ≡ false → n ≤ longestMemory → longestMemory < m → closedBy MemoryTooLong ≡ openedOf s n m
   unfolding openedOf
-  opened-good h l = rw (← e, h, le-ltb longestMemory n l)
+  opened-longer h l k = rw (← e, h, le-ltb longestMemory n l, lt-ltb longestMemory m k)
+
+  -- a good sheet
+  pub opened-good : not g ≡ false → n ≤ longestMemory → m ≤ longestMemory
+      → record { number = 0; device = record { sheet = keptOf s; state = openingState (keptOf s) n m } } ≡ openedOf s n m
+  unfolding openedOf
+  opened-good h l k = rw (← e, h, le-ltb longestMemory n l, le-ltb longestMemory m k)

@@ -1,4 +1,4 @@
--- Opening: any bytes as the sheet, any length of picture memory.
+-- Opening: any bytes as the sheet, any length of each memory.
 use Prim.Native.Nat.{ℕ}
 use mathlib.Core.Bool.{cond, not}
 use mathlib.Core.List.{List}
@@ -25,12 +25,12 @@ pub record Opened : Type 0 where
 
 -- the device that stands in these fields
 abbrev pub wholeOf : Device → Whole
-wholeOf d = record { sheet = d .sheet; state = stateIn (d .setup) (d .values) (d .video) }
+wholeOf d = record { sheet = d .sheet; state = stateIn (d .setup) (d .values) (d .services) (d .video) (d .captions) }
 
 abbrev pub madeAs : Made → Opened
 madeAs r = record { number = r .number; device = wholeOf (r .device) }
 
--- the longest picture memory
+-- the longest memory of a stream
 abbrev pub longestMemory : ℕ
 longestMemory = 1073741824
 
@@ -38,9 +38,10 @@ longestMemory = 1073741824
 unfoldable pub closedBy : Refusal → Opened
 closedBy why = record { number = errnoOf why; device = record { sheet = replicate 2688 0; state = closedState } }
 
--- a good sheet and at most 2 ^ 30 bytes of memory: a device with a copy of the sheet
-unfoldable pub openedOf : List ℕ → ℕ → Opened
-openedOf s n =
+-- a good sheet, and at most 2 ^ 30 bytes of memory for pictures and as many for captions: a device with a copy of the sheet
+unfoldable pub openedOf : List ℕ → ℕ → ℕ → Opened
+openedOf s n m =
     cond (not (goodSheet s)) (closedBy BadSheet)
     (cond (ltb longestMemory n) (closedBy MemoryTooLong)
-    (record { number = 0; device = record { sheet = keptOf s; state = openingState (keptOf s) n } }))
+    (cond (ltb longestMemory m) (closedBy MemoryTooLong)
+    (record { number = 0; device = record { sheet = keptOf s; state = openingState (keptOf s) n m } })))

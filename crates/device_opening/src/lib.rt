@@ -1,4 +1,4 @@
-// Opening: any bytes as the sheet, any length of picture memory.
+// Opening: any bytes as the sheet, any length of each memory.
 ghost use mathlib.Core.Path.{_≡_};
 ghost use Rattle.device_opening.specs.Opening.{closedBy, openedOf, madeAs};
 use device_state::Device;
@@ -10,7 +10,7 @@ pub struct Made {
     pub device: Device,
 }
 
-// The longest picture memory.
+// The longest memory of a stream.
 const LONGEST: u64 = 1073741824;
 
 // A refused opening: its number, and a closed device.
@@ -24,18 +24,23 @@ fn refused(why: Refusal) -> Made
         setup,
         values: [0; 32],
         video: stream_run::fresh(0),
+        captions: stream_run::fresh(0),
+        services: [0; 48],
     };
     Made { number, device }
 }
 
-// A device for this sheet and a picture memory of this length.
-pub fn open_device(sheet: &[u8], length: u64) -> Made
-    ensures { λ r. ⌜ madeAs r ≡ openedOf (now (sheet .entry)) length ⌝ }
+// A device for this sheet, with a picture memory and a caption memory of these lengths.
+pub fn open_device(sheet: &[u8], pictures: u64, captions: u64) -> Made
+    ensures { λ r. ⌜ madeAs r ≡ openedOf (now (sheet .entry)) pictures captions ⌝ }
 {
     if !sheet_check::good_sheet(sheet) {
         return refused(Refusal::BadSheet);
     }
-    if LONGEST < length {
+    if LONGEST < pictures {
+        return refused(Refusal::MemoryTooLong);
+    }
+    if LONGEST < captions {
         return refused(Refusal::MemoryTooLong);
     }
     let copy = sheet_copy::kept(sheet);
@@ -45,7 +50,9 @@ pub fn open_device(sheet: &[u8], length: u64) -> Made
         sheet: copy,
         setup,
         values,
-        video: stream_run::fresh(length),
+        video: stream_run::fresh(pictures),
+        captions: stream_run::fresh(captions),
+        services: [0; 48],
     };
     Made { number: 0, device }
 }

@@ -29,3 +29,7 @@ refused why d a = answer (errnoOf why) d a
 -- only for type 1, video capture, named at a place of the argument
 abbrev pub typed : ℕ → State → List ℕ → Answer → Answer
 typed at d a r = cond (not (eqb (wordAt a at) 1)) (refused WrongType d a) r
+
+-- by the stream whose type the argument names at a place: 1, pictures, or 6, captions
+abbrev pub byType : ℕ → State → List ℕ → Answer → Answer → Answer
+byType at d a pictures captions = cond (eqb (wordAt a at) 1) pictures (cond (eqb (wordAt a at) 6) captions (refused WrongType d a))

@@ -1,9 +1,10 @@
 // What a device keeps. The sheet's copy never changes and is lent to the functions that read it; what requests choose, the values of the
-// controls and the numbers of the stream stand in arrays that are lent and changed in place. All of it is numbers, so that a caller in C
+// controls and the numbers of the streams stand in arrays that are lent and changed in place. All of it is numbers, so that a caller in C
 // can hold it, and every value of it is answered.
 ghost use mathlib.Core.Path.{_≡_};
 ghost use Rattle.device_state.specs.Setup.{setupIn, closedSetup, openingSetup};
 use control_value_rules::Values;
+use service_rules::Lines;
 use sheet_copy::Sheet;
 use stream_words::Words;
 
@@ -17,13 +18,21 @@ pub const LINE: usize = 4;
 
 pub const SIZE: usize = 5;
 
-// A device: the copy of its sheet, its setup, the values of its controls, and its stream of pictures.
+// The types of the streams: pictures, video capture; captions, sliced lines.
+pub const PICTURES: u32 = 1;
+
+pub const CAPTIONS: u32 = 6;
+
+// A device: the copy of its sheet, its setup, the values of its controls, its streams of pictures and of captions, and the services in force
+// on each sliced line.
 #[repr(C)]
 pub struct Device {
     pub sheet: Sheet,
     pub setup: SetupWords,
     pub values: Values,
     pub video: Words,
+    pub captions: Words,
+    pub services: Lines,
 }
 
 // A refused opening leaves a closed device: all numbers are 0.

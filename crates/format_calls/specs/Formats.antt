@@ -23,6 +23,6 @@ enumFmtOf s d a =
     (cond (leb (formatCount s) (wordAt a 0)) (refused NoSuchIndex d a)
     (done d (sets a 0 (descriptionReply s (wordAt a 0)))))
 
--- G_FMT: the format in force
+-- G_FMT of pictures: the format in force
 unfoldable pub gFmtOf : State → List ℕ → Answer
-gFmtOf d a = typed 0 d a (done d (sets a 0 (formatReply 1 (d .format) (d .line) (d .size))))
+gFmtOf d a = done d (sets a 0 (formatReply 1 (d .format) (d .line) (d .size)))

@@ -1,4 +1,4 @@
-// QUERYCAP, ENUM_FMT and G_FMT. Each takes an argument of the length that its word says, and answers any other as far as it reaches.
+// QUERYCAP, ENUM_FMT, and G_FMT of pictures, whose type whoever calls it has tested. Each takes an argument of the length that its word says, and answers any other as far as it reaches.
 ghost use mathlib.Core.Path.{_≡_};
 ghost use Rattle.device_state.specs.Setup.{setupIn};
 ghost use Rattle.device_state.specs.State.{State, withSetup};
@@ -35,9 +35,6 @@ pub fn g_fmt(setup: &SetupWords, argument: &mut [u8]) -> u32
     ensures { λ r. ⌜ ((d : State) → answer r (withSetup d (setupIn (now (setup .entry)))) (now (argument .exit))
         ≡ gFmtOf (withSetup d (setupIn (now (setup .entry)))) (now (argument .entry))) ⌝ }
 {
-    if wire_read::word_at(argument, 0) != 1 {
-        return ioctl_table::errno(Refusal::WrongType);
-    }
     let f = device_setup::format_in(setup);
     negotiation_rules::put_format(
         argument,

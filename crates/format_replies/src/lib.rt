@@ -10,7 +10,7 @@ pub fn put_capability(argument: &mut [u8], sheet: &[u8])
     let zeros = [0u8; 104];
     wire_copy::put_bytes(argument, 0, &zeros);
     wire_copy::put_part(argument, 0, sheet, sheet_contents::identity_at(sheet), 84);
-    wire_store::put_word(argument, 84, 0x0400_0001);
+    wire_store::put_word(argument, 84, 0x0400_0041);
 }
 
 // ENUM_FMT: format k of the sheet.

@@ -47,7 +47,7 @@ unfolding knownWords callOf
 tested = refl
 
 -- the test, row by row
-right : (k : ℕ) → k < 17 → inWord (rowAt k) ≡ inRow (rowAt k)
+right : (k : ℕ) → k < 18 → inWord (rowAt k) ≡ inRow (rowAt k)
 unfolding knownWords
 right k h = at inWord inRow nothing knownWords tested k h
 
@@ -58,7 +58,7 @@ pub record LaidOut (r : Known) : Type 0 where
   pub direction : directionOf (r .word) ≡ r .direction
 
 -- every row is laid out so
-pub laid-out : (k : ℕ) → k < 17 → LaidOut (rowAt k)
+pub laid-out : (k : ℕ) → k < 18 → LaidOut (rowAt k)
 laid-out k h = record {
   size = ap (λ (f : Facts). f .size) (right k h);
   letter = ap (λ (f : Facts). f .letter) (right k h);
@@ -66,26 +66,26 @@ laid-out k h = record {
 }
 
 -- every row is found by its word: no row before it has the same word for another call
-pub finds : (k : ℕ) → k < 17 → callOf (rowAt k .word) ≡ rowAt k .call
+pub finds : (k : ℕ) → k < 18 → callOf (rowAt k .word) ≡ rowAt k .call
 finds k h = ap (λ (f : Facts). f .call) (right k h)
 
 -- every row has a call
-pub never-unknown : (k : ℕ) → k < 17 → rowAt k .call ≡ Unknown → ⊥
+pub never-unknown : (k : ℕ) → k < 18 → rowAt k .call ≡ Unknown → ⊥
 never-unknown k h e =
     let none : ltb 0 (sizeOf (rowAt k .word)) ≡ false = ap (λ (n : ℕ). ltb 0 n) (laid-out k h .size ∙ ap argumentSize e) in
     false≢true (sym none ∙ ap (λ (f : Facts). f .sized) (right k h))
 
 -- a word is unknown or some row's
-pub only : (w : ℕ) → (callOf w ≡ Unknown) ⊎ ((k : ℕ) × (k < 17) × (rowAt k .word ≡ w))
+pub only : (w : ℕ) → (callOf w ≡ Unknown) ⊎ ((k : ℕ) × (k < 18) × (rowAt k .word ≡ w))
 unfolding knownWords callOf
 only w = unknown-or-listed w knownWords
 
 -- a word that no row has is unknown
-pub unlisted : (w : ℕ) → ((k : ℕ) → k < 17 → rowAt k .word ≡ w → ⊥) → callOf w ≡ Unknown
+pub unlisted : (w : ℕ) → ((k : ℕ) → k < 18 → rowAt k .word ≡ w → ⊥) → callOf w ≡ Unknown
 unlisted w none = ⊎-elim (λ u. u) (λ p. absurd (none (p .0) (p .1) (p .2))) (only w)
 
 -- what holds of each row's word holds of every word that is not unknown
-pub of-known : (P : ℕ → Type 0) → ((k : ℕ) → k < 17 → P (rowAt k .word)) → (w : ℕ) → (callOf w ≡ Unknown) ⊎ P w
+pub of-known : (P : ℕ → Type 0) → ((k : ℕ) → k < 18 → P (rowAt k .word)) → (w : ℕ) → (callOf w ≡ Unknown) ⊎ P w
 of-known P each w = ⊎-map (λ u. u) (λ p. subst P (p .2) (each (p .0) (p .1))) (only w)
 
 -- the argument of a known word is as long as the word says

@@ -10,13 +10,13 @@ use Rattle.ioctl_table.specs.declared.refusals.Refusal.the-variants.{Arg
 abbrev pub errnoOf : Refusal → ℕ
 -- the argument lent is longer or shorter than the word says
 errnoOf ArgumentLength = 14
--- the picture memory lent with an arrival has another length than the one at opening had
+-- the memory lent with an arrival has another length than that of its stream had at opening
 errnoOf MemoryLength = 14
 -- the device is closed, since its opening was refused
 errnoOf Closed = 22
--- the word is none of the seventeen
+-- the word is none of the eighteen
 errnoOf UnknownWord = 25
--- the type named is not 1, video capture
+-- the type named is that of no stream, or not 1, video capture, where only pictures have the call
 errnoOf WrongType = 22
 -- the kind of memory named is not 1, the only kind there is
 errnoOf WrongMemory = 22
@@ -38,7 +38,7 @@ errnoOf ControlReadOnly = 22
 errnoOf ControlIsButton = 22
 -- the sheet at opening breaks one of its rules
 errnoOf BadSheet = 22
--- the picture memory at opening is longer than 2 ^ 30 bytes
+-- the memory of a stream at opening is longer than 2 ^ 30 bytes
 errnoOf MemoryTooLong = 22
 -- the present format has no plane of this number, or the frame lent is not of its length
 errnoOf NoSuchPlane = 22

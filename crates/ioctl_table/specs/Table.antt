@@ -1,11 +1,11 @@
--- The seventeen known request words, and what each asks for.
+-- The eighteen known request words, and what each asks for.
 use mathlib.Core.Bool.{cond}
 use mathlib.Core.List.{List, [], _∷_}
 use Prim.Native.Nat.{ℕ}
 use lib.Dec.{eqb}
 use lib.ListN.{getD}
 use Rattle.ioctl_table.specs.declared.table.Call.{Call}
-use Rattle.ioctl_table.specs.declared.table.Call.the-variants.{Unknown, Querycap, EnumFmt, GFmt, SFmt, TryFmt, Reqbufs, Querybuf, Qbuf, Dqbuf, Streamon, Streamoff, GCtrl, SCtrl, Queryctrl, Cropcap, GCrop, SCrop}
+use Rattle.ioctl_table.specs.declared.table.Call.the-variants.{Unknown, Querycap, EnumFmt, GFmt, SFmt, TryFmt, Reqbufs, Querybuf, Qbuf, Dqbuf, Streamon, Streamoff, GCtrl, SCtrl, Queryctrl, Cropcap, GCrop, SCrop, GSlicedVbiCap}
 use Rattle.ioctl_table.specs.declared.table.Request.{Request}
 
 -- how many bytes the argument of a call has
@@ -28,6 +28,7 @@ argumentSize Queryctrl = 68
 argumentSize Cropcap = 44
 argumentSize GCrop = 20
 argumentSize SCrop = 20
+argumentSize GSlicedVbiCap = 116
 
 -- one row of the table: a word, its direction, and the call that it stands for
 pub record Known : Type 0 where
@@ -59,6 +60,7 @@ knownWords =
     ∷ row 0xC02C563A 3 Cropcap
     ∷ row 0xC014563B 3 GCrop
     ∷ row 0x4014563C 1 SCrop
+    ∷ row 0xC0745645 3 GSlicedVbiCap
     ∷ []
 
 -- what stands past the end of the table

@@ -1,4 +1,4 @@
-// The seventeen known request words, and the reasons and numbers of refusals.
+// The eighteen known request words, and the reasons and numbers of refusals.
 mod refusals;
 mod table;
 

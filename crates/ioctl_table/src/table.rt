@@ -1,4 +1,4 @@
-// The seventeen known request words, the call that each stands for, and the length of that call's argument.
+// The eighteen known request words, the call that each stands for, and the length of that call's argument.
 ghost use mathlib.Core.Path.{_≡_};
 ghost use mathlib.Core.Logic.{_⊎_};
 ghost use Rattle.ioctl_table.specs.Table.{requestOf};
@@ -24,6 +24,7 @@ pub enum Call {
     Cropcap,
     GCrop,
     SCrop,
+    GSlicedVbiCap,
 }
 
 // What a word asks for: the call, and the length in bytes that its argument has to have.
@@ -61,11 +62,12 @@ fn row(w: u32) -> Request
         0xC02C563A => asks(Call::Cropcap, 44),
         0xC014563B => asks(Call::GCrop, 20),
         0x4014563C => asks(Call::SCrop, 20),
+        0xC0745645 => asks(Call::GSlicedVbiCap, 116),
         _ => asks(Call::Unknown, 0),
     }
 }
 
-// What the word asks for: Unknown, with an argument of no bytes, where it is none of the seventeen. The length of a known word's argument
+// What the word asks for: Unknown, with an argument of no bytes, where it is none of the eighteen. The length of a known word's argument
 // is the one that the word itself names in its bits 29 to 16.
 pub fn lookup(w: u32) -> Request
     ensures { λ r. ⌜ r ≡ requestOf w ⌝ }

@@ -1,4 +1,4 @@
--- What S_FMT and TRY_FMT answer.
+-- What S_FMT and TRY_FMT answer to a format of pictures.
 use Prim.Native.Nat.{ℕ}
 use mathlib.Core.Bool.{cond, not}
 use mathlib.Core.List.{List}
@@ -12,7 +12,7 @@ use Rattle.negotiation_rules.specs.Negotiation.{negotiated, askedFormat}
 use Rattle.negotiation_rules.specs.Answer.{formatReply}
 use Rattle.negotiation_calls.specs.declared.Picture.{Picture}
 use Rattle.device_state.specs.State.{State, withFormat}
-use Rattle.device_state.specs.Answers.{Answer, done, refused, typed}
+use Rattle.device_state.specs.Answers.{Answer, done, refused}
 
 -- a format told with the line and image size that the sheet gives it
 abbrev pub toldFormat : List ℕ → Format → List ℕ
@@ -22,13 +22,12 @@ toldFormat s f = formatReply 1 f (bytesPerLine f (lineAlignment s)) (imageSize f
 abbrev pub pictureOf : List ℕ → Format → Picture
 pictureOf s f = record { format = f; line = bytesPerLine f (lineAlignment s); size = imageSize f (lineAlignment s) }
 
--- S_FMT: type, then no buffers
+-- S_FMT of pictures: no buffers may be there
 unfoldable pub sFmtOf : List ℕ → State → List ℕ → Answer
 sFmtOf s d a =
-    typed 0 d a
-    (cond (not (eqb (d .stream .queues .granted) 0)) (refused BuffersExist d a)
-    (done (withFormat s d (negotiated s (askedFormat a))) (sets a 0 (toldFormat s (negotiated s (askedFormat a))))))
+    cond (not (eqb (d .video .queues .granted) 0)) (refused BuffersExist d a)
+    (done (withFormat s d (negotiated s (askedFormat a))) (sets a 0 (toldFormat s (negotiated s (askedFormat a)))))
 
--- TRY_FMT
+-- TRY_FMT of pictures
 unfoldable pub tryFmtOf : List ℕ → State → List ℕ → Answer
-tryFmtOf s d a = typed 0 d a (done d (sets a 0 (toldFormat s (negotiated s (askedFormat a)))))
+tryFmtOf s d a = done d (sets a 0 (toldFormat s (negotiated s (askedFormat a))))

@@ -1,4 +1,5 @@
-// S_FMT and TRY_FMT. Each takes an argument of the length that its word says, and answers any other as far as it reaches.
+// S_FMT and TRY_FMT of pictures, whose type whoever calls them has tested. Each takes an argument of the length that its word says, and
+// answers any other as far as it reaches.
 ghost use mathlib.Core.Path.{_≡_};
 ghost use lib.Seq.{sets};
 ghost use Rattle.negotiation_rules.specs.Negotiation.{negotiated, askedFormat};
@@ -32,12 +33,9 @@ fn answered(sheet: &[u8], argument: &mut [u8]) -> Picture
 
 // Another format, while there are no buffers; so many are granted.
 pub fn s_fmt(sheet: &[u8], setup: &mut SetupWords, granted: u64, argument: &mut [u8]) -> u32
-    ensures { λ r. ⌜ ((d : State) → d .stream .queues .granted ≡ granted → answer r (withSetup d (setupIn (now (setup .exit)))) (now (argument .exit))
+    ensures { λ r. ⌜ ((d : State) → d .video .queues .granted ≡ granted → answer r (withSetup d (setupIn (now (setup .exit)))) (now (argument .exit))
         ≡ sFmtOf (now (sheet .entry)) (withSetup d (setupIn (now (setup .entry)))) (now (argument .entry))) ⌝ }
 {
-    if wire_read::word_at(argument, 0) != 1 {
-        return ioctl_table::errno(Refusal::WrongType);
-    }
     if granted != 0 {
         return ioctl_table::errno(Refusal::BuffersExist);
     }
@@ -51,9 +49,6 @@ pub fn s_fmt(sheet: &[u8], setup: &mut SetupWords, granted: u64, argument: &mut 
 pub fn try_fmt(sheet: &[u8], argument: &mut [u8]) -> u32
     ensures { λ r. ⌜ ((d : State) → answer r d (now (argument .exit)) ≡ tryFmtOf (now (sheet .entry)) d (now (argument .entry))) ⌝ }
 {
-    if wire_read::word_at(argument, 0) != 1 {
-        return ioctl_table::errno(Refusal::WrongType);
-    }
     answered(sheet, argument);
     0
 }

@@ -1,24 +1,30 @@
-// The requests about the device, its formats and its crop: the argument's length is tested, and the call goes to its handler.
+// The requests about the device, its formats and services, and its crop: the argument's length is tested, and the call goes to its handler.
 ghost use mathlib.Core.Path.{_≡_};
 ghost use Rattle.device_state.specs.Setup.{setupIn};
-ghost use Rattle.device_state.specs.State.{State, withSetup};
+ghost use Rattle.device_state.specs.State.{State, withSettings};
 ghost use Rattle.device_state.specs.Answers.{answer};
 ghost use Rattle.request_topics.specs.Request.{onTopic, settings};
+
+mod by_type;
+
 use device_state::SetupWords;
 use ioctl_table::Call;
 use ioctl_table::Refusal;
+use service_rules::Lines;
 
-// A call about the device, its formats and its crop, with any argument; so many buffers are granted. Each arm tests the length against a
-// number of its own, for speed: the compiler then knows it in all that the arm calls.
+// A call about the device, its formats and services, and its crop, with any argument; so many buffers are granted to pictures and to
+// captions. Each arm tests the length against a number of its own, for speed: the compiler then knows it in all that the arm calls.
 pub fn setting_request(
     call: Call,
     sheet: &[u8],
     setup: &mut SetupWords,
-    granted: u64,
+    services: &mut Lines,
+    pictures: u64,
+    captions: u64,
     argument: &mut [u8],
 ) -> u32
-    ensures { λ r. ⌜ ((d : State) → d .stream .queues .granted ≡ granted → answer r (withSetup d (setupIn (now (setup .exit)))) (now (argument .exit))
-        ≡ onTopic settings call (now (sheet .entry)) (withSetup d (setupIn (now (setup .entry)))) (now (argument .entry))) ⌝ }
+    ensures { λ r. ⌜ ((d : State) → d .video .queues .granted ≡ pictures → d .captions .queues .granted ≡ captions → answer r (withSettings d (setupIn (now (setup .exit))) (now (services .exit))) (now (argument .exit))
+        ≡ onTopic settings call (now (sheet .entry)) (withSettings d (setupIn (now (setup .entry))) (now (services .entry))) (now (argument .entry))) ⌝ }
 {
     match call {
         Call::Querycap => {
@@ -37,19 +43,19 @@ pub fn setting_request(
             if argument.len() != 204 {
                 return ioctl_table::errno(Refusal::ArgumentLength);
             }
-            format_calls::g_fmt(setup, argument)
+            by_type::g_fmt(setup, services, argument)
         }
         Call::SFmt => {
             if argument.len() != 204 {
                 return ioctl_table::errno(Refusal::ArgumentLength);
             }
-            negotiation_calls::s_fmt(sheet, setup, granted, argument)
+            by_type::s_fmt(sheet, setup, services, pictures, captions, argument)
         }
         Call::TryFmt => {
             if argument.len() != 204 {
                 return ioctl_table::errno(Refusal::ArgumentLength);
             }
-            negotiation_calls::try_fmt(sheet, argument)
+            by_type::try_fmt(sheet, argument)
         }
         Call::Cropcap => {
             if argument.len() != 44 {
@@ -68,6 +74,12 @@ pub fn setting_request(
                 return ioctl_table::errno(Refusal::ArgumentLength);
             }
             crop_calls::s_crop(sheet, setup, argument)
+        }
+        Call::GSlicedVbiCap => {
+            if argument.len() != 116 {
+                return ioctl_table::errno(Refusal::ArgumentLength);
+            }
+            service_calls::g_sliced_vbi_cap(argument)
         }
         _ => ioctl_table::errno(Refusal::UnknownWord),
     }

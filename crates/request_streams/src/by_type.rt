@@ -1,86 +1,84 @@
-// The six calls on a stream, by the type that an argument names: the type is tested, and the call goes to the stream of that type. There is
-// one, of pictures.
+// A call on a stream, by the type that its argument names: the call goes to the stream of that type, with the size of its frames.
 ghost use mathlib.Core.Path.{_≡_};
-ghost use Rattle.buffer_calls.specs.Buffers.{reqbufsOf, querybufOf};
-ghost use Rattle.queue_calls.specs.Queues.{qbufOf, dqbufOf};
-ghost use Rattle.run_calls.specs.Runs.{streamonOf, streamoffOf};
+ghost use lib.ListN.{length};
+ghost use Rattle.ioctl_table.specs.Table.{argumentSize};
 ghost use Rattle.stream_words.specs.Words.{streamIn};
-ghost use Rattle.device_state.specs.State.{State, withStream};
+ghost use Rattle.buffer_calls.specs.Buffers.{streamAnswer};
+ghost use Rattle.device_state.specs.State.{State, withStreams};
 ghost use Rattle.device_state.specs.Answers.{answer};
 ghost use Rattle.request_topics.specs.Request.{streamCall};
+ghost use Rattle.request_streams.specs.OnStream.{streamAnswerOf};
+use device_state::CAPTIONS;
+use device_state::PICTURES;
+use ioctl_table::Call;
 use ioctl_table::Refusal;
+use service_rules::Lines;
 use stream_words::Words;
 
-// The type of pictures: video capture.
-const PICTURES: u32 = 1;
-
-// Where the type stands in a buffer request and in a buffer, and in the argument of a switch.
-const BUFFER_TYPE: usize = 4;
-
-const SWITCH_TYPE: usize = 0;
-
-// Buffers are asked for, or freed.
-pub(crate) fn reqbufs(size: u32, video: &mut Words, argument: &mut [u8]) -> u32
-    ensures { λ r. ⌜ ((d : State) → d .size ≡ size → answer r (withStream d (streamIn (now (video .exit)))) (now (argument .exit))
-        ≡ streamCall reqbufsOf 4 (withStream d (streamIn (now (video .entry)))) (now (argument .entry))) ⌝ }
+// A call on one stream, of this type and frame size. Each arm of a call that reads and writes its argument tests the length again, for speed:
+// the compiler then knows it in all that the arm calls.
+fn on_stream(call: Call, kind: u32, size: u32, s: &mut Words, argument: &mut [u8]) -> u32
+    requires { ⌜ length (now argument) ≡ argumentSize call ⌝ }
+    ensures { λ r. ⌜ streamAnswer r (streamIn (now (s .exit))) (now (argument .exit)) ≡ streamAnswerOf call (streamIn (now (s .entry))) kind size (now (argument .entry)) ⌝ }
 {
-    if wire_read::word_at(argument, BUFFER_TYPE) != PICTURES {
-        return ioctl_table::errno(Refusal::WrongType);
+    match call {
+        Call::Reqbufs => {
+            if argument.len() != 20 {
+                return 0;
+            }
+            buffer_calls::reqbufs(s, kind, size, argument)
+        }
+        Call::Querybuf => {
+            if argument.len() != 68 {
+                return 0;
+            }
+            buffer_calls::querybuf(s, kind, size, argument)
+        }
+        Call::Qbuf => {
+            if argument.len() != 68 {
+                return 0;
+            }
+            queue_calls::qbuf(s, kind, size, argument)
+        }
+        Call::Dqbuf => {
+            if argument.len() != 68 {
+                return 0;
+            }
+            queue_calls::dqbuf(s, kind, size, argument)
+        }
+        Call::Streamon => run_calls::streamon(s),
+        Call::Streamoff => run_calls::streamoff(s),
+        _ => ioctl_table::errno(Refusal::UnknownWord),
     }
-    buffer_calls::reqbufs(video, PICTURES, size, argument)
 }
 
-// The status of a buffer.
-pub(crate) fn querybuf(size: u32, video: &Words, argument: &mut [u8]) -> u32
-    ensures { λ r. ⌜ ((d : State) → d .size ≡ size → answer r (withStream d (streamIn (now (video .entry)))) (now (argument .exit))
-        ≡ streamCall querybufOf 4 (withStream d (streamIn (now (video .entry)))) (now (argument .entry))) ⌝ }
+// A call on the stream whose type the argument names at a place; pictures have this size, captions the io size of the services.
+pub(crate) fn by_type(
+    call: Call,
+    at: usize,
+    size: u32,
+    services: &Lines,
+    video: &mut Words,
+    captions: &mut Words,
+    argument: &mut [u8],
+) -> u32
+    requires { ⌜ length (now argument) ≡ argumentSize call ⌝ }
+    ensures { λ r. ⌜ ((d : State) → d .size ≡ size → d .services ≡ now (services .entry)
+        → answer r (withStreams d (streamIn (now (video .exit))) (streamIn (now (captions .exit)))) (now (argument .exit))
+        ≡ streamCall (streamAnswerOf call) at (withStreams d (streamIn (now (video .entry))) (streamIn (now (captions .entry)))) (now (argument .entry))) ⌝ }
 {
-    if wire_read::word_at(argument, BUFFER_TYPE) != PICTURES {
-        return ioctl_table::errno(Refusal::WrongType);
+    let kind = wire_read::word_at(argument, at);
+    if kind == PICTURES {
+        return on_stream(call, PICTURES, size, video, argument);
     }
-    buffer_calls::querybuf(video, PICTURES, size, argument)
-}
-
-// A buffer is handed in.
-pub(crate) fn qbuf(size: u32, video: &mut Words, argument: &mut [u8]) -> u32
-    ensures { λ r. ⌜ ((d : State) → d .size ≡ size → answer r (withStream d (streamIn (now (video .exit)))) (now (argument .exit))
-        ≡ streamCall qbufOf 4 (withStream d (streamIn (now (video .entry)))) (now (argument .entry))) ⌝ }
-{
-    if wire_read::word_at(argument, BUFFER_TYPE) != PICTURES {
-        return ioctl_table::errno(Refusal::WrongType);
+    if kind == CAPTIONS {
+        return on_stream(
+            call,
+            CAPTIONS,
+            service_rules::io_size(services),
+            captions,
+            argument,
+        );
     }
-    queue_calls::qbuf(video, PICTURES, size, argument)
-}
-
-// The oldest filled buffer is handed over.
-pub(crate) fn dqbuf(size: u32, video: &mut Words, argument: &mut [u8]) -> u32
-    ensures { λ r. ⌜ ((d : State) → d .size ≡ size → answer r (withStream d (streamIn (now (video .exit)))) (now (argument .exit))
-        ≡ streamCall dqbufOf 4 (withStream d (streamIn (now (video .entry)))) (now (argument .entry))) ⌝ }
-{
-    if wire_read::word_at(argument, BUFFER_TYPE) != PICTURES {
-        return ioctl_table::errno(Refusal::WrongType);
-    }
-    queue_calls::dqbuf(video, PICTURES, size, argument)
-}
-
-// A run begins.
-pub(crate) fn streamon(video: &mut Words, argument: &[u8]) -> u32
-    ensures { λ r. ⌜ ((d : State) → answer r (withStream d (streamIn (now (video .exit)))) (now (argument .entry))
-        ≡ streamCall streamonOf 0 (withStream d (streamIn (now (video .entry)))) (now (argument .entry))) ⌝ }
-{
-    if wire_read::word_at(argument, SWITCH_TYPE) != PICTURES {
-        return ioctl_table::errno(Refusal::WrongType);
-    }
-    run_calls::streamon(video)
-}
-
-// The run ends, if one is on, and the queues are emptied.
-pub(crate) fn streamoff(video: &mut Words, argument: &[u8]) -> u32
-    ensures { λ r. ⌜ ((d : State) → answer r (withStream d (streamIn (now (video .exit)))) (now (argument .entry))
-        ≡ streamCall streamoffOf 0 (withStream d (streamIn (now (video .entry)))) (now (argument .entry))) ⌝ }
-{
-    if wire_read::word_at(argument, SWITCH_TYPE) != PICTURES {
-        return ioctl_table::errno(Refusal::WrongType);
-    }
-    run_calls::streamoff(video)
+    ioctl_table::errno(Refusal::WrongType)
 }

@@ -1,10 +1,10 @@
-// The requests about the stream. The argument's length is tested, then the type that it names, and the call goes to the stream of that
-// type: there is one, of pictures.
+// The requests about the streams. The argument's length is tested, then the type that it names, and the call goes to the stream of that
+// type, of pictures or of captions.
 ghost use mathlib.Core.Path.{_≡_};
 ghost use mathlib.Core.List.{List};
 ghost use Prim.Native.Nat.{ℕ};
 ghost use Rattle.stream_words.specs.Words.{streamIn};
-ghost use Rattle.device_state.specs.State.{State, withStream};
+ghost use Rattle.device_state.specs.State.{State, withStreams};
 ghost use Rattle.device_state.specs.Answers.{answer};
 ghost use Rattle.request_topics.specs.Request.{onTopic, streams};
 
@@ -12,50 +12,112 @@ mod by_type;
 
 use ioctl_table::Call;
 use ioctl_table::Refusal;
+use service_rules::Lines;
 use stream_words::Words;
 
-// A call about the stream, whose frames have this size, with any argument. Each arm tests the length against a number of its own, for speed:
-// the compiler then knows it in all that the arm calls.
-pub fn stream_request(call: Call, size: u32, video: &mut Words, argument: &mut [u8]) -> u32
-    ensures { λ r. ⌜ ((s : List ℕ) (d : State) → d .size ≡ size → answer r (withStream d (streamIn (now (video .exit)))) (now (argument .exit))
-        ≡ onTopic streams call s (withStream d (streamIn (now (video .entry)))) (now (argument .entry))) ⌝ }
+// Where the type stands in a buffer request and in a buffer, and in the argument of a switch.
+const BUFFER_TYPE: usize = 4;
+
+const SWITCH_TYPE: usize = 0;
+
+// A call about the streams, with any argument: pictures have frames of this size, captions of the io size of the services. Each arm tests the
+// length against a number of its own, for speed: the compiler then knows it in all that the arm calls.
+pub fn stream_request(
+    call: Call,
+    size: u32,
+    services: &Lines,
+    video: &mut Words,
+    captions: &mut Words,
+    argument: &mut [u8],
+) -> u32
+    ensures { λ r. ⌜ ((s : List ℕ) (d : State) → d .size ≡ size → d .services ≡ now (services .entry)
+        → answer r (withStreams d (streamIn (now (video .exit))) (streamIn (now (captions .exit)))) (now (argument .exit))
+        ≡ onTopic streams call s (withStreams d (streamIn (now (video .entry))) (streamIn (now (captions .entry)))) (now (argument .entry))) ⌝ }
 {
     match call {
         Call::Reqbufs => {
             if argument.len() != 20 {
                 return ioctl_table::errno(Refusal::ArgumentLength);
             }
-            by_type::reqbufs(size, video, argument)
+            by_type::by_type(
+                Call::Reqbufs,
+                BUFFER_TYPE,
+                size,
+                services,
+                video,
+                captions,
+                argument,
+            )
         }
         Call::Querybuf => {
             if argument.len() != 68 {
                 return ioctl_table::errno(Refusal::ArgumentLength);
             }
-            by_type::querybuf(size, video, argument)
+            by_type::by_type(
+                Call::Querybuf,
+                BUFFER_TYPE,
+                size,
+                services,
+                video,
+                captions,
+                argument,
+            )
         }
         Call::Qbuf => {
             if argument.len() != 68 {
                 return ioctl_table::errno(Refusal::ArgumentLength);
             }
-            by_type::qbuf(size, video, argument)
+            by_type::by_type(
+                Call::Qbuf,
+                BUFFER_TYPE,
+                size,
+                services,
+                video,
+                captions,
+                argument,
+            )
         }
         Call::Dqbuf => {
             if argument.len() != 68 {
                 return ioctl_table::errno(Refusal::ArgumentLength);
             }
-            by_type::dqbuf(size, video, argument)
+            by_type::by_type(
+                Call::Dqbuf,
+                BUFFER_TYPE,
+                size,
+                services,
+                video,
+                captions,
+                argument,
+            )
         }
         Call::Streamon => {
             if argument.len() != 4 {
                 return ioctl_table::errno(Refusal::ArgumentLength);
             }
-            by_type::streamon(video, argument)
+            by_type::by_type(
+                Call::Streamon,
+                SWITCH_TYPE,
+                size,
+                services,
+                video,
+                captions,
+                argument,
+            )
         }
         Call::Streamoff => {
             if argument.len() != 4 {
                 return ioctl_table::errno(Refusal::ArgumentLength);
             }
-            by_type::streamoff(video, argument)
+            by_type::by_type(
+                Call::Streamoff,
+                SWITCH_TYPE,
+                size,
+                services,
+                video,
+                captions,
+                argument,
+            )
         }
         _ => ioctl_table::errno(Refusal::UnknownWord),
     }

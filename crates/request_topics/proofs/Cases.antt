@@ -16,7 +16,7 @@ use Rattle.ioctl_table.specs.Refusal.{errnoOf}
 use Rattle.ioctl_table.specs.declared.refusals.Refusal.the-variants.{ArgumentLength, Closed, UnknownWord}
 use Rattle.ioctl_table.specs.Table.{argumentSize, requestOf}
 use Rattle.ioctl_table.specs.declared.table.Call.{Call}
-use Rattle.ioctl_table.specs.declared.table.Call.the-variants.{Unknown, Querycap, EnumFmt, GFmt, SFmt, TryFmt, Reqbufs, Querybuf, Qbuf, Dqbuf, Streamon, Streamoff, GCtrl, SCtrl, Queryctrl, Cropcap, GCrop, SCrop}
+use Rattle.ioctl_table.specs.declared.table.Call.the-variants.{Unknown, Querycap, EnumFmt, GFmt, SFmt, TryFmt, Reqbufs, Querybuf, Qbuf, Dqbuf, Streamon, Streamoff, GCtrl, SCtrl, Queryctrl, Cropcap, GCrop, SCrop, GSlicedVbiCap}
 use Rattle.ioctl_table.specs.declared.table.Request.{Request}
 use Rattle.device_state.specs.State.{State}
 use Rattle.device_state.specs.Answers.{Answer, answer}
@@ -68,6 +68,7 @@ module _ (s : List ℕ) (d : State) (a : List ℕ) where
   nothing-answers Cropcap x y z = absurd (x refl)
   nothing-answers GCrop x y z = absurd (x refl)
   nothing-answers SCrop x y z = absurd (x refl)
+  nothing-answers GSlicedVbiCap x y z = absurd (x refl)
 
   pub topic-nothing : (c : Call) {r n : ℕ} → r ≡ topicOf c → (r ≡ 1 → ⊥) → (r ≡ 2 → ⊥) → (r ≡ 3 → ⊥) → n ≡ errnoOf UnknownWord → answer n d a ≡ checkedAnswer c s d a
   topic-nothing c e x y z q = ap (λ (n : ℕ). answer n d a) q ∙ nothing-answers c (λ h. x (e ∙ h)) (λ h. y (e ∙ h)) (λ h. z (e ∙ h))
@@ -95,6 +96,7 @@ topic-at Queryctrl = refl
 topic-at Cropcap = refl
 topic-at GCrop = refl
 topic-at SCrop = refl
+topic-at GSlicedVbiCap = refl
 
 -- no call at these places is about t
 abbrev pub without : ℕ → List ℕ → Bool

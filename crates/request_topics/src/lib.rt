@@ -3,7 +3,7 @@ ghost use mathlib.Core.Path.{_≡_};
 ghost use Rattle.request_topics.specs.Request.{topicOf};
 use ioctl_table::Call;
 
-// The topics: the device with its formats and its crop; the stream; the controls.
+// The topics: the device with its formats, services and crop; the streams; the controls.
 pub const SETTINGS: u32 = 1;
 
 pub const STREAMS: u32 = 2;
@@ -33,5 +33,6 @@ pub fn topic(call: Call) -> u32
         Call::Cropcap => SETTINGS,
         Call::GCrop => SETTINGS,
         Call::SCrop => SETTINGS,
+        Call::GSlicedVbiCap => SETTINGS,
     }
 }

@@ -12,9 +12,9 @@ use Rattle.stream_words.specs.Lists.{tab}
 use Rattle.stream_words.proofs.Tabs.{tab-same, tab-get}
 use Rattle.sheet_rules.specs.Folds.{anyBelow}
 use Rattle.sheet_rules.proofs.Truth.{both, any-at, any-of}
-use Rattle.service_rules.specs.Services.{Service, has, setOf, offers, offeredAt, capabilityLines}
+use Rattle.service_rules.specs.Services.{Service, Each, has, setOf, offers, offeredAt, capabilityLines}
 use Rattle.service_rules.specs.Negotiation.{askedAt, common, fittingAt, negotiatedLines, unionOf, countBelow, carrying}
-use Rattle.service_rules.proofs.Members.{Each, each, each-of-two, in-set, set-same, set-most}
+use Rattle.service_rules.proofs.Members.{each, each-of-two, in-set, set-same, set-most}
 
 -- ---- the table of the services and the lines
 

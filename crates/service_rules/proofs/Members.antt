@@ -3,11 +3,7 @@ use mathlib.Core.Path.{_≡_, refl}
 use mathlib.Core.Bool.{Bool, true, false, cond}
 use Prim.Native.Nat.{ℕ, _+_, _≤_}
 use native.Mathlib.Omega.{arith}
-use Rattle.service_rules.specs.Services.{Service, teletextB, vps, caption525, wss625, has, setOf}
-
--- of each of the four services
-abbrev pub Each : (Service → Type 0) → Type 0
-Each P = P teletextB × P vps × P caption525 × P wss625
+use Rattle.service_rules.specs.Services.{Service, teletextB, vps, caption525, wss625, Each, has, setOf}
 
 -- what holds of each by what does
 pub each : {P Q : Service → Type 0} → ((s : Service) → P s → Q s) → Each P → Each Q

@@ -31,6 +31,10 @@ wss625 = record { bit = 0x4000; first = 23; last = 23; fields = 1 }
 abbrev pub services : List Service
 services = teletextB ∷ vps ∷ caption525 ∷ wss625 ∷ []
 
+-- of each of the four
+abbrev pub Each : (Service → Type 0) → Type 0
+Each P = P teletextB × P vps × P caption525 × P wss625
+
 -- ---- sets of services
 
 -- a service is in a set if the set has its bit

@@ -7,8 +7,8 @@ pub fn word(c: u8) -> u32 {
     match c {
         b'c' => 0x80685600,
         b'e' => 0xC0405602,
-        b'f' | b'P' | b'N' => 0xC0CC5605,
-        b't' | b'T' => 0xC0CC5640,
+        b'f' | b'P' | b'N' | b'F' => 0xC0CC5605,
+        b't' | b'T' | b'E' => 0xC0CC5640,
         b'r' => 0xC0145608,
         b'b' => 0xC0445609,
         b'q' => 0xC044560F,
@@ -22,6 +22,7 @@ pub fn word(c: u8) -> u32 {
         b'C' => 0xC02C563A,
         b'k' => 0xC014563B,
         b'K' => 0x4014563C,
+        b'V' => 0xC0745645,
         _ => 0xC0CC5604,
     }
 }
@@ -48,25 +49,42 @@ fn words(a: u32, b: u32, c: u32, d: u32, e: u32, f: u32) -> Words {
     [a, b, c, d, e, f, 0, 0, 0, 0, 0, 0, 0]
 }
 
-// What a client asks with, by two numbers. An opening has the length of the memory, that of the sheet, and the sheet's least width, which
-// is even in a good one. The 7 is the bytes per line that a client would like, which nobody looks at.
+// The type of the stream that is asked, where the first of two numbers names it: pictures where there is none.
+fn kind(x: u32) -> u32 {
+    if x == 0 { 1 } else { x }
+}
+
+// The word at 100, where G_SLICED_VBI_CAP has its type and other calls have nothing.
+pub(crate) fn last(c: u8) -> u32 {
+    if c == b'V' { 6 } else { 0 }
+}
+
+// What a client asks with, by two numbers. An opening has the length of the picture memory, that of the sheet, the sheet's least width, which
+// is even in a good one, and the length of the caption memory. An arrival has its length, its time and its type, and one of captions the load
+// and the service. The 7 is the bytes per line that a client would like, which nobody looks at.
 pub(crate) fn argument(c: u8, x: u32, n: u32) -> Words {
     match c {
         b'B' => words(n, 324, 160, 0, 0, 0),
         b'D' => words(n, 324, 161, 0, 0, 0),
         b'U' => words(n, 323, 160, 0, 0, 0),
-        b'w' => words(143360, x, n, 0, 0, 0),
-        b'h' => words(143359, x, n, 0, 0, 0),
+        b'O' => words(x, 324, 160, n, 0, 0),
+        b'w' => words(143360, x, n, 1, 0, 0),
+        b'h' => words(143359, x, n, 1, 0, 0),
+        b'z' => words(143360, x, n, 2, 0, 0),
+        b'a' => words(64, n, 0, 6, x, 0x1000),
+        b'A' => words(128, n, 0, 6, x, 0x1000),
+        b'i' => words(64, n, 0, 6, x, 0x0001),
+        b'F' | b'E' => words(6, n, 0, 0, 0, 0),
         b'f' | b't' => words(1, x, n, 0x56595559, 0, 7),
         b'P' | b'T' => words(1, x, n, 0x32315559, 0, 7),
         b'N' => words(1, x, n, 0x3231564E, 0, 7),
-        b'b' | b'q' | b'd' => [n, 1, 0, 0, 0, 0, 0, 0, 0, 0, 0, 0, 1],
+        b'b' | b'q' | b'd' => [n, kind(x), 0, 0, 0, 0, 0, 0, 0, 0, 0, 0, 1],
         b'e' => words(n, 1, 0, 0, 0, 0),
-        b'r' => words(n, 1, 1, 0, 0, 0),
+        b'r' => words(n, kind(x), 1, 0, 0, 0),
         b'S' => words(x, n, 0, 0, 0, 0),
         b'K' => words(1, x, 0, n, 400, 0),
         b'y' => words(2, 0, 0, 0, 0, 0),
         b'G' | b'Q' | b'p' | b'#' => words(n, x, 0, 0, 0, 0),
-        _ => words(1, 0, 0, 0, 0, 0),
+        _ => words(kind(x), 0, 0, 0, 0, 0),
     }
 }

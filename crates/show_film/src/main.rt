@@ -1,10 +1,12 @@
 // The whole capture device on the bench sheet: each call, what it is answered, and what can be said of the film. What is printed of
-// an answer is read from the bytes of its argument. The crate `show_calls` has the letter of each event and how it is said, `show_lists` how
-// lists of events are read.
+// an answer is read from the bytes of its argument. The crate `show_calls` has the letter of each event and how it is said, `show_answers` how
+// its answer is, `show_lists` how lists of events are read.
 fn main() {
-    let mut memory = [0u8; 1048576];
-    show_events::table(
-        &mut memory,
+    let mut pictures = [0u8; 1048576];
+    let mut captions = [0u8; 8192];
+    show_tables::table(
+        &mut pictures,
+        &mut captions,
         b"1. Opening\n\
             1048576B v 1048576D c o 1x0w v 1048576U v 1073741824B 1x0w v 1073741825B c o 1x0w v\n\
         2. Negotiation\n\
@@ -34,6 +36,14 @@ fn main() {
         4g. Buffers and planes\n\
             1048576B 304x224f 10r 6b 7b 0r 143360x0p 143360x1p 143360x2p 143360x3p \
             304x224P 10r 8b 9b 107520x0p 107520x1p 107520x2p 107520x3p \
-            143360x0p 143360x1p 143360x2p 143360x3p",
+            143360x0p 143360x1p 143360x2p 143360x3p\n\
+        5a. Services, and captions before there are any\n\
+            1048576x1073741825O c 1048576x8192O V 4096E 6xg 512F 6x10r 6xs 250x1a 21505F 6x10r 4096F 6x0r 4096F 1x0z\n\
+        5b. Each picture has its caption frame, with a load reading on line 21\n\
+            1048576x8192O 300x225f 10r 0q 1q s 4096F 6x10r 6x0q 6x1q 6xs 1x0w 250x1a d 6xd 0q 6x0q \
+            2x0w 251x2a 3x0w 249x3a d 6xd d 6xd d 6xd o 6xo v 6xv\n\
+        5c. The captions alone have a gap\n\
+            1048576x8192O 300x225f 10r 0q 1q s 4096F 6x10r 6x0q 6x1q 6xs 1x0w 250x1a \
+            2x0w 251x2A d 6xd 0q 3x0w 249x3i d d 6xd o 6xo v 6xv",
     );
 }

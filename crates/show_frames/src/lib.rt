@@ -1,31 +1,29 @@
-// A device and its film: it is opened, frames arrive, the verdict, planes. The device goes in whole and comes back whole, with the number that a
+// A device and its film: frames arrive, the verdict, planes. The device goes in whole and comes back whole, with the number that a
 // caller is given. What is asked stands in the words of an argument, and so does the answer. No contract here says more than that each
 // function is safe and ends.
 use device_opening::Made;
 use device_state::Device;
 use device_state::SetupWords;
+use service_rules::Lines;
 use stream_words::Words;
-
-// A device is opened: a word of the argument says how long its memory is, the next how much of the sheet is lent, the last is the sheet's
-// least width.
-pub fn open(a: &[u8]) -> Made {
-    let mut bytes = bench_sheet::sheet();
-    wire_store::put_word(&mut bytes, 188, wire_read::word_at(a, 8));
-    let lent = wire_read::part(&bytes, 0, wire_read::word_at(a, 4) as usize);
-    device_opening::open_device(lent, wire_read::word_at(a, 0) as u64)
-}
 
 // The space that a frame is made in. It is lent with its length in its type: an array just made is too long for the checker to count.
 type Space = [u8; 143360];
 
-// The picture of a frame goes by the second that it arrives in.
-fn picture(space: &mut Space, a: &[u8]) {
-    show_pictures::fill(space, wire_read::word_at(a, 4));
+// A frame of captions has the record of line 21, and where it is long enough has it twice. A picture goes by the second that it arrives in.
+fn make(space: &mut Space, a: &[u8]) {
+    if wire_read::word_at(a, 12) == device_state::CAPTIONS {
+        show_pictures::captions(space, wire_read::part(a, 16, 8));
+    } else {
+        show_pictures::fill(space, wire_read::word_at(a, 4));
+    }
 }
 
 fn taken(
     setup: &SetupWords,
+    services: &Lines,
     video: &mut Words,
+    captions: &mut Words,
     memory: &mut [u8],
     space: &Space,
     a: &mut [u8],
@@ -34,7 +32,10 @@ fn taken(
     let second = wire_read::word_at(a, 4);
     let told = device_numbers::arrive(
         setup,
+        services,
         video,
+        captions,
+        wire_read::word_at(a, 12),
         memory,
         frame,
         second,
@@ -44,23 +45,36 @@ fn taken(
     told.kind
 }
 
-// A frame arrives, of as many bytes as the first word says, at the time that the next two tell.
+// A frame arrives, of as many bytes as the first word says, at the time that the next two tell, of the type that the fourth does, with the
+// memory of its stream.
 pub fn arrive(d: Device, memory: &mut [u8], a: &mut [u8]) -> Made {
     let mut space = [0u8; 143360];
     let setup = d.setup;
+    let services = d.services;
     let mut video = d.video;
-    picture(&mut space, a);
-    let number = taken(&setup, &mut video, memory, &space, a);
+    let mut captions = d.captions;
+    make(&mut space, a);
+    let number = taken(
+        &setup,
+        &services,
+        &mut video,
+        &mut captions,
+        memory,
+        &space,
+        a,
+    );
     let mut device = d;
     device.video = video;
+    device.captions = captions;
     Made { number, device }
 }
 
-// The verdict on the film.
-fn verdict(d: Device) -> u32 {
+// The verdict on the film of the type that the first word tells.
+fn verdict(d: Device, a: &[u8]) -> u32 {
     let setup = d.setup;
     let video = d.video;
-    device_numbers::verdict(&setup, &video)
+    let captions = d.captions;
+    device_numbers::verdict(&setup, &video, &captions, wire_read::word_at(a, 0))
 }
 
 // Where a plane lies, by its number and the bytes of a frame.
@@ -84,7 +98,7 @@ fn plane(d: Device, a: &mut [u8]) -> u32 {
 // What changes nothing: v the verdict, p a plane; any other letter asks for nothing.
 pub fn read(d: Device, c: u8, a: &mut [u8]) -> u32 {
     match c {
-        b'v' => verdict(d),
+        b'v' => verdict(d, a),
         b'p' => plane(d, a),
         _ => 0,
     }

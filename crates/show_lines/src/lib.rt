@@ -5,6 +5,7 @@ fn field(kind: u8, a: &[u8], at: usize) {
     match kind {
         b'd' => show_text::long(wire_read::word_at(a, at) as u64),
         b'x' => show_text::hex(wire_read::word_at(a, at)),
+        b'h' => show_text::hex(wire_read::word_at(a, at) % 65536),
         b'i' => show_text::signed(wire_read::word_at(a, at)),
         b's' => show_text::name(wire_read::part(a, at, 32)),
         b'c' => show_text::text(wire_read::part(a, at, 4)),
@@ -40,7 +41,7 @@ fn step(to_come: u8, b: u8, letter: u8, a: &[u8]) -> u8 {
 }
 
 // What the line of this letter says. After % stands the kind of a field, and after that its place:
-//   d a number, x one in hexadecimal, i a signed one, s a name up to its zero byte, c a code of four letters, t a time
+//   d a number, x one in hexadecimal, h one of 16 bits in hexadecimal, i a signed one, s a name up to its zero byte, c a code of four letters, t a time
 pub fn told(table: &[u8], letter: u8, a: &[u8]) {
     let mut to_come = b'\n';
     let mut i: usize = 0;

@@ -8,12 +8,16 @@ pub fn request(d: Device, c: u8, a: &mut [u8]) -> Made {
     let sheet = d.sheet;
     let mut setup = d.setup;
     let mut values = d.values;
+    let mut services = d.services;
     let mut video = d.video;
+    let mut captions = d.captions;
     let number = device_requests::request(
         &sheet,
         &mut setup,
         &mut values,
+        &mut services,
         &mut video,
+        &mut captions,
         show_calls::word(c),
         show_calls::lent(a, c),
     );
@@ -22,6 +26,8 @@ pub fn request(d: Device, c: u8, a: &mut [u8]) -> Made {
         setup,
         values,
         video,
+        captions,
+        services,
     };
     Made { number, device }
 }

@@ -12,12 +12,12 @@ use arrival_replies::Told;
 use device_state::Device;
 use plane_rules::Place;
 
-// A device for this sheet and a picture memory of this length; what d held before does not matter.
+// A device for this sheet, with a picture memory and a caption memory of these lengths; what d held before does not matter.
 #[no_mangle]
-pub extern "C" fn tg_open(d: &mut Device, sheet: &[u8], picture: u64) -> u32
-    ensures { λ r. ⌜ (r ≡ openedOf (now (sheet .entry)) picture .number) × (wholeOf (now (d .exit)) ≡ openedOf (now (sheet .entry)) picture .device) ⌝ }
+pub extern "C" fn tg_open(d: &mut Device, sheet: &[u8], pictures: u64, captions: u64) -> u32
+    ensures { λ r. ⌜ (r ≡ openedOf (now (sheet .entry)) pictures captions .number) × (wholeOf (now (d .exit)) ≡ openedOf (now (sheet .entry)) pictures captions .device) ⌝ }
 {
-    let r = device_opening::open_device(sheet, picture);
+    let r = device_opening::open_device(sheet, pictures, captions);
     *d = r.device;
     r.number
 }
@@ -34,35 +34,48 @@ pub extern "C" fn tg_request(d: &mut Device, word: u32, argument: &mut [u8]) -> 
         &d.sheet,
         &mut d.setup,
         &mut d.values,
+        &mut d.services,
         &mut d.video,
+        &mut d.captions,
         word,
         argument,
     )
 }
 
-// A frame arrives, with the picture memory lent; the time comes by its bits.
+// A frame of a type arrives, with the memory of its stream lent; the time comes by its bits.
 #[no_mangle]
 pub extern "C" fn tg_arrival(
     d: &mut Device,
+    kind: u32,
     memory: &mut [u8],
     frame: &[u8],
     seconds: u32,
     microseconds: u32,
 ) -> Told
-    ensures { λ r. ⌜ (r ≡ toldOf (takenOf (wholeOf (now (d .entry)) .state) (length (now (memory .entry))) (length (now (frame .entry))) (timeOf seconds microseconds) .arrival))
-        × (wholeOf (now (d .exit)) .state ≡ takenOf (wholeOf (now (d .entry)) .state) (length (now (memory .entry))) (length (now (frame .entry))) (timeOf seconds microseconds) .state)
+    ensures { λ r. ⌜ (r ≡ toldOf (takenOf (wholeOf (now (d .entry)) .state) kind (length (now (memory .entry))) (now (frame .entry)) (timeOf seconds microseconds) .arrival))
+        × (wholeOf (now (d .exit)) .state ≡ takenOf (wholeOf (now (d .entry)) .state) kind (length (now (memory .entry))) (now (frame .entry)) (timeOf seconds microseconds) .state)
         × (now (d .exit) .sheet ≡ now (d .entry) .sheet)
-        × (now (memory .exit) ≡ takenMemory (wholeOf (now (d .entry)) .state) (now (memory .entry)) (now (frame .entry)) (timeOf seconds microseconds)) ⌝ }
+        × (now (memory .exit) ≡ takenMemory (wholeOf (now (d .entry)) .state) kind (now (memory .entry)) (now (frame .entry)) (timeOf seconds microseconds)) ⌝ }
 {
-    device_numbers::arrive(&d.setup, &mut d.video, memory, frame, seconds, microseconds)
+    device_numbers::arrive(
+        &d.setup,
+        &d.services,
+        &mut d.video,
+        &mut d.captions,
+        kind,
+        memory,
+        frame,
+        seconds,
+        microseconds,
+    )
 }
 
-// The verdict on the film: 0 RUNNING, 1 BLANK, 2 GAPS, 3 COMPLETE.
+// The verdict on the film of a type: 0 RUNNING, 1 BLANK, 2 GAPS, 3 COMPLETE.
 #[no_mangle]
-pub extern "C" fn tg_verdict(d: &Device) -> u32
-    ensures { λ r. ⌜ r ≡ verdictTold (wholeOf (now (d .entry)) .state) ⌝ }
+pub extern "C" fn tg_verdict(d: &Device, kind: u32) -> u32
+    ensures { λ r. ⌜ r ≡ verdictTold (wholeOf (now (d .entry)) .state) kind ⌝ }
 {
-    device_numbers::verdict(&d.setup, &d.video)
+    device_numbers::verdict(&d.setup, &d.video, &d.captions, kind)
 }
 
 // Where a plane of a frame of so many bytes lies.

@@ -1,26 +1,34 @@
 //! Well made arguments: right size, type and memory; the fields that are answers hold anything.
 
-use super::dequeued;
+use super::{captions, dequeued};
 use crate::model::bytes::{put, put_signed};
 use crate::model::control::{Control, NEXT};
 use crate::model::format::CODES;
 use crate::model::words::{self, *};
 use crate::model::Opened;
 use crate::random::Random;
+use crate::recorder::{CAPTIONS, PICTURES};
 
-/// An argument for this word, made with an eye to what the device keeps.
-pub fn argument(random: &mut Random, opened: Option<&Opened>, word: u32) -> Vec<u8> {
+/// An argument for this word, made with an eye to what the device keeps. It is about the stream that `kind` names, or about
+/// the only one that the word allows.
+pub fn argument(random: &mut Random, opened: Option<&Opened>, kind: u32, word: u32) -> Vec<u8> {
     let mut argument = vec![0; words::size(word)];
     if random.chance(40) {
         random.fill(&mut argument);
     }
     let bytes = argument.as_mut_slice();
+    if let Some(at) = words::type_at(word) {
+        put(bytes, at, allowed_type(random, kind, word));
+    }
     match word {
         ENUM_FMT => enum_fmt(random, opened, bytes),
-        G_FMT | STREAMON | STREAMOFF | CROPCAP | G_CROP => put(bytes, 0, 1),
-        S_FMT | TRY_FMT => format(random, opened, bytes),
-        REQBUFS => return reqbufs(random, 1),
-        QUERYBUF | QBUF | DQBUF => buffer(random, opened, word, bytes),
+        S_FMT | TRY_FMT if kind == PICTURES => format(random, opened, bytes),
+        S_FMT | TRY_FMT => {
+            let present = opened.map_or(Default::default(), |opened| opened.lines);
+            captions::wish(random, &present, bytes);
+        }
+        REQBUFS => return reqbufs(random, kind, 1),
+        QUERYBUF | QBUF | DQBUF => buffer(random, opened, kind, word, bytes),
         G_CTRL => put(bytes, 0, control_id(random, opened)),
         S_CTRL => set_control(random, opened, bytes),
         QUERYCTRL => query_control(random, opened, bytes),
@@ -30,8 +38,18 @@ pub fn argument(random: &mut Random, opened: Option<&Opened>, word: u32) -> Vec<
     argument
 }
 
+/// Calls that know one type only get the other one now and then, to be refused.
+fn allowed_type(random: &mut Random, kind: u32, word: u32) -> u32 {
+    match word {
+        _ if random.chance(12) => kind,
+        ENUM_FMT | CROPCAP | G_CROP | S_CROP => PICTURES,
+        G_SLICED_VBI_CAP => CAPTIONS,
+        _ => kind,
+    }
+}
+
 /// A request for buffers: any number from `least` on, or one that no memory holds; none if `least` is 0.
-pub fn reqbufs(random: &mut Random, least: u32) -> Vec<u8> {
+pub fn reqbufs(random: &mut Random, kind: u32, least: u32) -> Vec<u8> {
     let mut argument = vec![0; 20];
     random.fill(&mut argument[12..]);
     let count = match random.below(10) {
@@ -42,7 +60,7 @@ pub fn reqbufs(random: &mut Random, least: u32) -> Vec<u8> {
         _ => random.between(least as i64, 40) as u32,
     };
     put(&mut argument, 0, count);
-    put(&mut argument, 4, 1);
+    put(&mut argument, 4, kind);
     put(&mut argument, 8, 1);
     argument
 }
@@ -55,12 +73,10 @@ fn enum_fmt(random: &mut Random, opened: Option<&Opened>, bytes: &mut [u8]) {
         _ => random.below(count as usize) as u32,
     };
     put(bytes, 0, index);
-    put(bytes, 4, 1);
 }
 
 /// Sizes at, between and beyond the allowed ones, and all codes.
 fn format(random: &mut Random, opened: Option<&Opened>, bytes: &mut [u8]) {
-    put(bytes, 0, 1);
     let Some(opened) = opened else { return };
     let sheet = &opened.sheet;
     for (at, sizes) in [(4, sheet.width), (8, sheet.height)] {
@@ -88,13 +104,13 @@ fn format(random: &mut Random, opened: Option<&Opened>, bytes: &mut [u8]) {
     put(bytes, 12, code);
 }
 
-fn buffer(random: &mut Random, opened: Option<&Opened>, word: u32, bytes: &mut [u8]) {
-    put(bytes, 4, 1);
+fn buffer(random: &mut Random, opened: Option<&Opened>, kind: u32, word: u32, bytes: &mut [u8]) {
     if word != QUERYBUF {
         put(bytes, 48, 1);
     }
-    let granted = opened.map_or(0, |opened| opened.stream.granted) as u32;
-    let free = if word == QBUF { opened.and_then(|opened| dequeued(opened, random)) } else { None };
+    let stream = opened.and_then(|opened| opened.stream(kind));
+    let granted = stream.map_or(0, |stream| stream.granted) as u32;
+    let free = if word == QBUF { stream.and_then(|stream| dequeued(stream, random)) } else { None };
     let index = match (random.below(20), free) {
         (0, _) => granted,
         (1, _) => random.pick(&[31, 32, 33, u32::MAX, granted.wrapping_sub(1)]),
@@ -159,7 +175,6 @@ fn query_control(random: &mut Random, opened: Option<&Opened>, bytes: &mut [u8])
 
 /// Rectangles around the bounds and at the ends of the numbers.
 fn crop(random: &mut Random, opened: Option<&Opened>, bytes: &mut [u8]) {
-    put(bytes, 0, 1);
     let Some(opened) = opened else { return };
     let bounds = opened.sheet.bounds;
     for (at, start, size) in [(4, bounds.left, bounds.width), (8, bounds.top, bounds.height)] {

@@ -1,16 +1,18 @@
 //! Calls with something wrong in them.
 
-use super::arguments;
 use super::damage::flipped;
+use super::{arguments, captions};
+use crate::model::services::Lines;
 use crate::model::words::{self, *};
 use crate::model::Opened;
 use crate::random::Random;
-use crate::session::{Arrival, Lent};
+use crate::recorder::CAPTIONS;
+use crate::session::{Arrival, Frame, Lent};
 
 /// A request with something wrong, or with bytes at random that may happen to be right.
-pub fn request(random: &mut Random, opened: Option<&Opened>) -> (u32, Vec<u8>) {
+pub fn request(random: &mut Random, opened: Option<&Opened>, kind: u32) -> (u32, Vec<u8>) {
     let (word, _) = random.pick(&ALL);
-    let argument = arguments::argument(random, opened, word);
+    let argument = arguments::argument(random, opened, kind, word);
     match random.below(10) {
         0 => (unknown_word(random, word), argument),
         1 => resized_word(random, word),
@@ -60,21 +62,13 @@ fn random_bytes(random: &mut Random, mut argument: Vec<u8>) -> Vec<u8> {
     argument
 }
 
-/// Puts a number other than 1 at a place, if the argument has such a place.
+/// Puts a number that is mostly wrong at a place, if the argument has such a place.
 fn wrong_word_at(random: &mut Random, mut argument: Vec<u8>, at: Option<usize>) -> Vec<u8> {
     if let Some(at) = at {
-        let number: u32 = random.pick(&[0, 2, 3, 6, 0x80, 33, 257, 0x0100_0001, u32::MAX]);
+        let number: u32 = random.pick(&[0, 1, 2, 3, 5, 6, 7, 0x80, 33, 257, 0x0100_0001, 0x106, u32::MAX]);
         argument[at..at + 4].copy_from_slice(&number.to_le_bytes());
     }
     argument
-}
-
-fn type_at(word: u32) -> Option<usize> {
-    match word {
-        ENUM_FMT | REQBUFS | QUERYBUF | QBUF | DQBUF => Some(4),
-        G_FMT | S_FMT | TRY_FMT | STREAMON | STREAMOFF | CROPCAP | G_CROP | S_CROP => Some(0),
-        _ => None,
-    }
 }
 
 fn memory_at(word: u32) -> Option<usize> {
@@ -92,25 +86,30 @@ fn index_at(word: u32) -> Option<usize> {
     }
 }
 
-/// An arrival that may be damaged, or lent another memory.
-pub fn arrival(random: &mut Random, image_size: usize, memory_length: usize) -> Arrival {
-    let mut arrival = Arrival {
-        lent: Lent::Memory,
-        frame_length: image_size,
-        frame_seed: random.draw(),
-        seconds: random.pick(&[0, -1, i32::MIN, i32::MAX]),
-        microseconds: random.pick(&[0, 999_999]),
-    };
-    match random.below(4) {
-        0 => arrival.frame_length = other_frame_length(random, image_size),
-        1 => arrival.microseconds = random.pick(&[-1, 1_000_000, 1_000_001, i32::MIN, i32::MAX, 999_999]),
-        2 => arrival.lent = Lent::Other(other_memory_length(random, memory_length)),
+/// A whole arrival with something wrong in it: the frame, the time, the memory that is lent, or the type.
+pub fn arrival(random: &mut Random, arrival: Arrival, lines: [&Lines; 2], memory_length: usize) -> Arrival {
+    match random.below(10) {
+        0..=2 => Arrival { frame: other_frame(random, &arrival, lines), ..arrival },
+        3 | 4 => {
+            let microseconds = random.pick(&[-1, 1_000_000, 1_000_001, i32::MIN, i32::MAX, 999_999]);
+            Arrival { microseconds, ..arrival }
+        }
+        5 => Arrival { lent: Lent::Swapped, ..arrival },
+        6 => Arrival { lent: Lent::Other(other_memory_length(random, memory_length)), ..arrival },
+        7 => Arrival { kind: random.pick(&[0, 2, 3, 5, 7, 9, 0x101, 0x0100_0006, u32::MAX]), ..arrival },
         _ => {
-            arrival.frame_length = other_frame_length(random, image_size);
-            arrival.microseconds = random.word() as i32;
+            let frame = other_frame(random, &arrival, lines);
+            Arrival { frame, microseconds: random.word() as i32, ..arrival }
         }
     }
-    arrival
+}
+
+/// The lines are those in force, and those before them.
+fn other_frame(random: &mut Random, arrival: &Arrival, [lines, earlier]: [&Lines; 2]) -> Frame {
+    if arrival.kind == CAPTIONS {
+        return captions::flawed(random, lines, earlier);
+    }
+    Frame::plain(other_frame_length(random, arrival.frame.length), arrival.frame.seed)
 }
 
 fn other_frame_length(random: &mut Random, size: usize) -> usize {

@@ -1,17 +1,19 @@
 //! Sessions at random. The generator runs the model beside it, so that it knows which calls lead deeper.
 
 pub mod arguments;
+pub mod captions;
 pub mod damage;
 pub mod hostile;
 pub mod sheets;
 
 use crate::draft::Draft;
-use crate::model::buffers::Place;
+use crate::model::buffers::{Place, Stream};
+use crate::model::services::Lines;
 use crate::model::words::*;
-use crate::model::{Device, Opened};
+use crate::model::Device;
 use crate::random::Random;
-use crate::recorder::Recorder;
-use crate::session::{made_length, Arrival, Lent, Session, Step};
+use crate::recorder::{Recorder, CAPTIONS, PICTURES, STREAMS};
+use crate::session::{made_length, Arrival, Frame, Lent, Session, Step};
 
 /// How a session goes.
 #[derive(Clone, Copy, PartialEq)]
@@ -50,9 +52,13 @@ const LONGEST_FRAME: usize = 400_000;
 struct Generator {
     random: Random,
     manner: Manner,
+    /// How many of a hundred calls are about captions.
+    captions: usize,
     device: Device,
-    /// Stand for the picture memory and the frames: here only lengths matter.
-    memory: Vec<u8>,
+    /// The services that were in force before the last S_FMT that changed them.
+    earlier: Lines,
+    /// Stand for the memories and the frames: of all but caption frames only the lengths matter here.
+    memories: [Vec<u8>; 2],
     other: Vec<u8>,
     frame: Vec<u8>,
     steps: Vec<Step>,
@@ -67,10 +73,12 @@ pub fn session(seed: u64) -> Session {
     // Full sessions are long, so that queues hold 32 and runs get numbers above a byte.
     let length = if manner == Manner::Full { 1500 } else { random.between(20, 90) as usize };
     let mut generator = Generator {
+        captions: random.pick(&[10, 50, 50, 90]),
         random,
         manner,
         device: Device::closed(),
-        memory: Vec::new(),
+        earlier: Lines::default(),
+        memories: Default::default(),
         other: Vec::new(),
         frame: Vec::new(),
         steps: Vec::new(),
@@ -92,24 +100,32 @@ impl Generator {
     /// Adds a step and lets the model make it.
     fn add(&mut self, step: Step) {
         match &step {
-            Step::Open { sheet, picture_length } => {
-                self.device.open(sheet, *picture_length);
-                self.memory.resize(made_length(*picture_length), 0);
+            Step::Open { sheet, lengths } => {
+                self.device.open(sheet, *lengths);
+                for (memory, length) in self.memories.iter_mut().zip(lengths) {
+                    memory.resize(made_length(*length), 0);
+                }
             }
             Step::Request { word, argument } => {
-                let mut answer = [0; 512];
+                let (mut answer, lines) = ([0; 512], self.lines());
                 self.device.request(*word, answer_of(&mut answer, argument));
+                if self.lines() != lines && lines != Lines::default() {
+                    self.earlier = lines;
+                }
             }
             Step::Arrival(arrival) => {
-                self.frame.resize(arrival.frame_length, 0);
-                let memory = match arrival.lent {
-                    Lent::Memory => &mut self.memory,
-                    Lent::Other(length) => {
-                        self.other.resize(length, 0);
-                        &mut self.other
-                    }
+                self.frame.resize(arrival.frame.length, 0);
+                if arrival.kind == CAPTIONS {
+                    arrival.frame.write(&mut self.frame);
+                }
+                if let Lent::Other(length) = arrival.lent {
+                    self.other.resize(length, 0);
+                }
+                let memory = match arrival.memory() {
+                    Some(place) => &mut self.memories[place],
+                    None => &mut self.other,
                 };
-                self.device.arrival(memory, &self.frame, arrival.seconds, arrival.microseconds);
+                self.device.arrival(arrival.kind, memory, &self.frame, arrival.seconds, arrival.microseconds);
             }
             Step::Plane { .. } => {}
         }
@@ -130,13 +146,27 @@ impl Generator {
         }
     }
 
-    /// Opens with a sheet that is mostly good and a memory that mostly holds some buffers.
+    /// The stream that the next call is about.
+    fn kind(&mut self) -> u32 {
+        if self.random.chance(self.captions) {
+            CAPTIONS
+        } else {
+            PICTURES
+        }
+    }
+
+    /// The services that are negotiated.
+    fn lines(&self) -> Lines {
+        self.device.opened().map_or(Lines::default(), |opened| opened.lines)
+    }
+
+    /// Opens with a sheet that is mostly good and memories that mostly hold some buffers.
     fn opening(&mut self) {
         let random = &mut self.random;
         if self.manner == Manner::Full {
-            let picture_length = 4096 * random.between(31, 34) as u64;
+            let lengths = STREAMS.map(|_| 4096 * random.between(31, 34) as u64);
             let sheet = sheets::tiny(random).bytes();
-            return self.add(Step::Open { sheet, picture_length });
+            return self.add(Step::Open { sheet, lengths });
         }
         let bad = if self.manner == Manner::Openings { 60 } else { 4 };
         let (sheet, one) = if random.chance(bad) {
@@ -148,28 +178,31 @@ impl Generator {
                 _ => Draft::bench(),
             };
             let sheet = draft.bytes();
-            let (_, device) = crate::model::open(&sheet, 0);
-            let slot = device.opened().map_or(4096, |opened| opened.picture.slot());
+            let (_, device) = crate::model::open(&sheet, [0, 0]);
+            let slot = device.opened().map_or(4096, |opened| opened.pictures.slot());
             (sheet, slot)
         };
-        let picture_length = memory_length(random, one);
-        self.add(Step::Open { sheet, picture_length });
+        // Lines never need more than the least slot.
+        let lengths = [memory_length(random, one), memory_length(random, 4096)];
+        self.add(Step::Open { sheet, lengths });
     }
 
     /// A call that is likely to be accepted and to lead on, by what the device keeps.
     fn useful_step(&mut self) {
-        let Some(opened) = self.device.opened() else { return };
-        let (buffers, streaming) = (opened.stream.granted > 0, opened.stream.streaming);
-        let (incoming, outgoing) = (opened.stream.incoming.len(), opened.stream.outgoing.len());
-        let dequeued = opened.stream.granted - incoming - outgoing;
+        let kind = self.kind();
+        let Some(stream) = self.device.opened().and_then(|opened| opened.stream(kind)) else { return };
+        let (buffers, streaming, frames) = (stream.granted > 0, stream.streaming, stream.frame_size > 0);
+        let (incoming, outgoing) = (stream.incoming.len(), stream.outgoing.len());
+        let dequeued = stream.granted - incoming - outgoing;
         if self.manner == Manner::Careful && streaming {
-            return self.careful_step(incoming, outgoing, dequeued);
+            return self.careful_step(kind, incoming, outgoing, dequeued);
         }
         if self.manner == Manner::Full {
-            return self.full_step(buffers, streaming);
+            return self.full_step(kind, [frames, buffers, streaming]);
         }
         // Buffers, S_FMT, QBUF, STREAMON, arrival, DQBUF, stop, anything.
         let weights = match (buffers, streaming) {
+            (false, _) if !frames => [5, 60, 1, 2, 2, 1, 1, 28],
             (false, _) => [35, 20, 1, 2, 2, 1, 1, 38],
             (true, false) => [4, 2, if dequeued > 0 { 45 } else { 3 }, 20, 4, 3, 2, 15],
             (true, true) => {
@@ -178,19 +211,19 @@ impl Generator {
             }
         };
         match self.random.weighted(&weights) {
-            0 => self.request(REQBUFS),
-            1 => self.request(S_FMT),
-            2 => self.request(QBUF),
-            3 => self.request(STREAMON),
-            4 => self.arrival(),
-            5 => self.request(DQBUF),
-            6 => self.stop(),
+            0 => self.request(kind, REQBUFS),
+            1 => self.request(kind, S_FMT),
+            2 => self.request(kind, QBUF),
+            3 => self.request(kind, STREAMON),
+            4 => self.arrival(kind),
+            5 => self.request(kind, DQBUF),
+            6 => self.stop(kind),
             _ => self.any_step(),
         }
     }
 
     /// In a careful run nothing is dropped or damaged, and the stop comes when all is handed over.
-    fn careful_step(&mut self, incoming: usize, outgoing: usize, dequeued: usize) {
+    fn careful_step(&mut self, kind: u32, incoming: usize, outgoing: usize, dequeued: usize) {
         let weights = [
             if dequeued > 0 { 25 } else { 0 },
             if incoming > 0 { 35 } else { 0 },
@@ -199,63 +232,67 @@ impl Generator {
             5,
         ];
         match self.random.weighted(&weights) {
-            0 => self.request(QBUF),
-            1 => self.whole_arrival(),
-            2 => self.request(DQBUF),
-            3 => self.stop(),
+            0 => self.request(kind, QBUF),
+            1 => self.whole_arrival(kind),
+            2 => self.request(kind, DQBUF),
+            3 => self.stop(kind),
             _ => {
                 let word = self.random.pick(&[G_FMT, QUERYBUF, G_CTRL, QUERYCTRL, G_CROP, S_CROP, S_CTRL, QUERYCAP]);
-                self.request(word);
+                self.request(kind, word);
             }
         }
     }
 
     /// The same call many times over, so that a queue is filled or emptied whole; a stop is rare.
-    fn full_step(&mut self, buffers: bool, streaming: bool) {
+    fn full_step(&mut self, kind: u32, [frames, buffers, streaming]: [bool; 3]) {
+        if !frames {
+            return self.request(kind, S_FMT);
+        }
         if !buffers {
-            let argument = arguments::reqbufs(&mut self.random, 32);
+            let argument = arguments::reqbufs(&mut self.random, kind, 32);
             return self.add(Step::Request { word: REQBUFS, argument });
         }
         if !streaming {
-            return self.request(STREAMON);
+            return self.request(kind, STREAMON);
         }
         let times = self.random.pick(&[1, 3, 33, 40]);
         match self.random.below(80) {
-            0 => self.stop(),
+            0 => self.stop(kind),
             1..=10 => self.any_step(),
-            11..=35 => (0..times).for_each(|_| self.request(QBUF)),
-            36..=58 => (0..times).for_each(|_| self.whole_arrival()),
-            _ => (0..times).for_each(|_| self.request(DQBUF)),
+            11..=35 => (0..times).for_each(|_| self.request(kind, QBUF)),
+            36..=58 => (0..times).for_each(|_| self.whole_arrival(kind)),
+            _ => (0..times).for_each(|_| self.request(kind, DQBUF)),
         }
     }
 
     fn any_step(&mut self) {
+        let kind = self.kind();
         match self.random.below(16) {
             0 => self.plane(),
-            1 => self.arrival(),
+            1 => self.arrival(kind),
             2..=5 => {
                 let word = self.random.pick(&[S_CTRL, S_CTRL, G_CTRL, QUERYCTRL, TRY_FMT, S_CROP]);
-                self.request(word);
+                self.request(kind, word);
             }
             _ => {
                 let (word, _) = self.random.pick(&ALL);
-                self.request(word);
+                self.request(kind, word);
             }
         }
     }
 
-    fn stop(&mut self) {
+    fn stop(&mut self, kind: u32) {
         if self.random.chance(70) {
-            self.request(STREAMOFF);
+            self.request(kind, STREAMOFF);
         } else {
-            let argument = arguments::reqbufs(&mut self.random, 0);
+            let argument = arguments::reqbufs(&mut self.random, kind, 0);
             self.add(Step::Request { word: REQBUFS, argument });
         }
     }
 
     /// A well made argument for a known word.
-    fn request(&mut self, word: u32) {
-        let argument = arguments::argument(&mut self.random, self.device.opened(), word);
+    fn request(&mut self, kind: u32, word: u32) {
+        let argument = arguments::argument(&mut self.random, self.device.opened(), kind, word);
         self.add(Step::Request { word, argument });
     }
 
@@ -266,40 +303,47 @@ impl Generator {
         self.add(Step::Plane { frame_length, plane });
     }
 
-    /// A frame of the image size, unless that is too long to be made.
-    fn whole_arrival(&mut self) {
-        let size = self.device.image_size();
-        if size > LONGEST_FRAME {
-            return self.arrival();
-        }
+    /// A frame that its stream takes: a picture of the image size, unless that is too long to be made, or caption lines.
+    fn whole(&mut self, kind: u32) -> Arrival {
+        let lines = self.lines();
+        let frame = match kind {
+            CAPTIONS => captions::whole(&mut self.random, &lines),
+            _ => Frame::plain(self.device.image_size().min(LONGEST_FRAME), self.random.draw()),
+        };
         let seconds = self.random.pick(&[0, 1, 1000, -1, i32::MIN, i32::MAX, 86_400]);
         let microseconds = self.random.pick(&[0, 1, 40_000, 500_000, 999_999]);
-        let frame_seed = self.random.draw();
-        self.add(Step::Arrival(Arrival { lent: Lent::Memory, frame_length: size, frame_seed, seconds, microseconds }));
+        Arrival { kind, lent: Lent::Own, frame, seconds, microseconds }
+    }
+
+    fn whole_arrival(&mut self, kind: u32) {
+        let arrival = self.whole(kind);
+        self.add(Step::Arrival(arrival));
     }
 
     /// A frame that is whole most of the time.
-    fn arrival(&mut self) {
-        let size = self.device.image_size();
-        if size <= LONGEST_FRAME && self.random.chance(80) {
-            return self.whole_arrival();
+    fn arrival(&mut self, kind: u32) {
+        if self.random.chance(75) {
+            self.whole_arrival(kind);
+        } else {
+            self.hostile_arrival(kind);
         }
-        let arrival = hostile::arrival(&mut self.random, size.min(LONGEST_FRAME), self.memory.len());
+    }
+
+    fn hostile_arrival(&mut self, kind: u32) {
+        let (whole, lines) = (self.whole(kind), self.lines());
+        let length = whole.memory().map_or(0, |place| self.memories[place].len());
+        let arrival = hostile::arrival(&mut self.random, whole, [&lines, &self.earlier], length);
         self.add(Step::Arrival(arrival));
     }
 
     fn hostile_step(&mut self) {
+        let kind = self.kind();
         match self.random.below(20) {
             0 => self.plane(),
             1 => self.opening(),
-            2..=4 => {
-                let size = self.device.image_size().min(LONGEST_FRAME);
-                let arrival = hostile::arrival(&mut self.random, size, self.memory.len());
-                self.add(Step::Arrival(arrival));
-            }
+            2..=4 => self.hostile_arrival(kind),
             _ => {
-                let opened: Option<&Opened> = self.device.opened();
-                let (word, argument) = hostile::request(&mut self.random, opened);
+                let (word, argument) = hostile::request(&mut self.random, self.device.opened(), kind);
                 self.add(Step::Request { word, argument });
             }
         }
@@ -338,13 +382,11 @@ fn odd_memory_length(random: &mut Random, slot: u64) -> u64 {
 }
 
 /// A buffer that is dequeued, if there is one.
-pub fn dequeued(opened: &Opened, random: &mut Random) -> Option<usize> {
-    let granted = opened.stream.granted;
+pub fn dequeued(stream: &Stream, random: &mut Random) -> Option<usize> {
+    let granted = stream.granted;
     if granted == 0 {
         return None;
     }
     let from = random.below(granted);
-    (0..granted)
-        .map(|place| (from + place) % granted)
-        .find(|index| matches!(opened.stream.places[*index], Place::Dequeued))
+    (0..granted).map(|place| (from + place) % granted).find(|index| matches!(stream.places[*index], Place::Dequeued))
 }

@@ -1,8 +1,9 @@
-//! Buffers, the two queues, and the run that fills them.
+//! A stream: its buffers, the two queues, and the run that fills them. Pictures and captions have one each.
 
 use super::bytes::{put, put_signed};
-use super::format::Picture;
-use crate::recorder::{BLANK, COMPLETE, GAPS, RUNNING};
+use super::numbers::{EFAULT, EOVERFLOW};
+use super::{plain, refused, RUN_LIMIT};
+use crate::recorder::{Arrived, BLANK, COMPLETE, DAMAGED, DROPPED, GAPS, IGNORED, RUNNING, STORED};
 
 pub const MOST: usize = 32;
 
@@ -52,6 +53,7 @@ impl Queue {
 #[derive(Clone, Copy)]
 pub struct Frame {
     pub number: u32,
+    pub used: u32,
     pub seconds: i32,
     pub microseconds: i32,
 }
@@ -72,8 +74,13 @@ pub struct Run {
     pub handed_over: u64,
 }
 
-#[derive(Default)]
 pub struct Stream {
+    /// The buffer type that names it.
+    pub kind: u32,
+    /// The length of its memory, as told at opening.
+    pub memory_length: u64,
+    /// The bytes that its longest frame has: the image size, or the io size.
+    pub frame_size: u32,
     pub streaming: bool,
     pub run: Run,
     pub granted: usize,
@@ -83,6 +90,33 @@ pub struct Stream {
 }
 
 impl Stream {
+    /// No buffers, and no run so far.
+    pub fn new(kind: u32, memory_length: u64, frame_size: u32) -> Stream {
+        Stream {
+            kind,
+            memory_length,
+            frame_size,
+            streaming: false,
+            run: Run::default(),
+            granted: 0,
+            places: [Place::Dequeued; MOST],
+            incoming: Queue::default(),
+            outgoing: Queue::default(),
+        }
+    }
+
+    /// A buffer takes the frame size, rounded up to 4,096.
+    #[inline]
+    pub fn slot(&self) -> u64 {
+        (self.frame_size as u64 + 4095) & !4095
+    }
+
+    /// How many buffers the memory holds; none if there is nothing to hold.
+    #[inline]
+    pub fn fitting(&self) -> u64 {
+        self.memory_length.checked_div(self.slot()).unwrap_or(0)
+    }
+
     /// Ends the run, if there is one, and empties both queues. The buffers stay, all dequeued.
     pub fn stop(&mut self) {
         self.streaming = false;
@@ -120,30 +154,66 @@ impl Stream {
 
     /// What QUERYBUF and QBUF say of a buffer.
     #[inline]
-    pub fn describe(&self, index: usize, picture: &Picture, argument: &mut [u8; 68]) {
+    pub fn describe(&self, index: usize, argument: &mut [u8; 68]) {
         match self.places[index] {
-            Place::Dequeued => answer(index, 0, None, picture, argument),
-            Place::Incoming => answer(index, 2, None, picture, argument),
-            Place::Outgoing(frame) => answer(index, 4, Some(frame), picture, argument),
+            Place::Dequeued => self.answer(index, 0, None, argument),
+            Place::Incoming => self.answer(index, 2, None, argument),
+            Place::Outgoing(frame) => self.answer(index, 4, Some(frame), argument),
         }
     }
-}
 
-/// The 68 bytes about a buffer; bytes used, time and number only if it holds a frame.
-#[inline]
-pub fn answer(index: usize, flags: u32, frame: Option<Frame>, picture: &Picture, argument: &mut [u8; 68]) {
-    *argument = [0; 68];
-    put(argument, 0, index as u32);
-    put(argument, 4, 1);
-    put(argument, 12, flags);
-    put(argument, 16, 1);
-    if let Some(frame) = frame {
-        put(argument, 8, picture.image_size);
-        put_signed(argument, 20, frame.seconds);
-        put_signed(argument, 24, frame.microseconds);
-        put(argument, 44, frame.number);
+    /// The 68 bytes about a buffer; bytes used, time and number only if it holds a frame.
+    #[inline]
+    pub fn answer(&self, index: usize, flags: u32, frame: Option<Frame>, argument: &mut [u8; 68]) {
+        *argument = [0; 68];
+        put(argument, 0, index as u32);
+        put(argument, 4, self.kind);
+        put(argument, 12, flags);
+        put(argument, 16, 1);
+        if let Some(frame) = frame {
+            put(argument, 8, frame.used);
+            put_signed(argument, 20, frame.seconds);
+            put_signed(argument, 24, frame.microseconds);
+            put(argument, 44, frame.number);
+        }
+        put(argument, 48, 1);
+        put(argument, 52, (index as u64 * self.slot()) as u32);
+        put(argument, 56, self.slot() as u32);
     }
-    put(argument, 48, 1);
-    put(argument, 52, (index as u64 * picture.slot()) as u32);
-    put(argument, 56, picture.slot() as u32);
+
+    /// A frame arrives. Whether its bytes are whole, `is_whole` says; its microseconds must be part of a second.
+    #[inline]
+    pub fn arrival(
+        &mut self,
+        memory: &mut [u8],
+        frame: &[u8],
+        (seconds, microseconds): (i32, i32),
+        is_whole: impl FnOnce(&[u8]) -> bool,
+    ) -> Arrived {
+        if memory.len() as u64 != self.memory_length {
+            return refused(EFAULT);
+        }
+        if !self.streaming {
+            return plain(IGNORED);
+        }
+        if self.run.accepted == RUN_LIMIT {
+            return refused(EOVERFLOW);
+        }
+        // Every arrival of the run takes a number, damaged and dropped ones too.
+        let number = self.run.accepted as u32;
+        self.run.accepted += 1;
+        if !(0..=999_999).contains(&microseconds) || !is_whole(frame) {
+            return plain(DAMAGED);
+        }
+        let Some(index) = self.incoming.take() else {
+            return plain(DROPPED);
+        };
+        // Only as many bytes are written as the frame has: a frame of lines may be shorter than the frame size.
+        let start = index * self.slot() as usize;
+        memory[start..start + frame.len()].copy_from_slice(frame);
+        let used = frame.len() as u32;
+        self.places[index] = Place::Outgoing(Frame { number, used, seconds, microseconds });
+        self.outgoing.put(index);
+        Arrived { answer: STORED, number, buffer: index as u32 }
+    }
 }

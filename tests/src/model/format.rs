@@ -3,7 +3,7 @@
 use super::bytes::{put, word};
 use super::numbers::EINVAL;
 use super::sheet::Sheet;
-use crate::recorder::Plane;
+use crate::recorder::{Plane, PICTURES};
 
 /// A code of four letters, the first in the lowest byte.
 pub const fn four(letters: &[u8; 4]) -> u32 {
@@ -111,7 +111,7 @@ impl Picture {
     /// The answer of the three format requests: type 1, the picture format, then zeros.
     #[inline]
     pub fn answer(&self, argument: &mut [u8; 204]) {
-        put(argument, 0, 1);
+        put(argument, 0, PICTURES);
         put(argument, 4, self.width);
         put(argument, 8, self.height);
         put(argument, 12, self.code);
@@ -120,12 +120,6 @@ impl Picture {
         put(argument, 24, self.image_size);
         put(argument, 28, colour_space(self.code));
         argument[32..].fill(0);
-    }
-
-    /// A buffer takes the image size, rounded up to 4,096.
-    #[inline]
-    pub fn slot(&self) -> u64 {
-        (self.image_size as u64 + 4095) & !4095
     }
 
     /// The part of a frame that is this plane; refused for another length of frame and for a plane that is not there.

@@ -8,17 +8,19 @@ pub mod crop;
 pub mod format;
 pub mod numbers;
 mod requests;
+pub mod services;
 pub mod sheet;
 pub mod words;
 
-use crate::recorder::{Arrived, Plane, BLANK, DAMAGED, DROPPED, IGNORED, REFUSED, STORED};
-use buffers::{Frame, Place, Stream, MOST};
+use crate::recorder::{Arrived, Plane, BLANK, CAPTIONS, PICTURES, REFUSED};
+use buffers::{Stream, MOST};
 use crop::Rectangle;
 use format::{Picture, NO_PLANE};
-use numbers::{number, DONE, EFAULT, EINVAL, EOVERFLOW};
+use numbers::{number, DONE, EINVAL};
+use services::Lines;
 use sheet::Sheet;
 
-/// The longest picture memory.
+/// The longest memory of a stream.
 pub const LONGEST_MEMORY: u64 = 1 << 30;
 
 /// A run takes this many arrivals and no more.
@@ -32,68 +34,73 @@ pub struct Device {
 /// What an open device keeps.
 pub struct Opened {
     pub sheet: Sheet,
-    pub picture_length: u64,
     pub picture: Picture,
     pub crop: Rectangle,
     pub values: [i32; 32],
-    pub stream: Stream,
+    /// The services of the caption stream's last accepted S_FMT.
+    pub lines: Lines,
+    pub pictures: Stream,
+    pub captions: Stream,
 }
 
-/// Makes a device of a sheet: 0, or 22 and a closed device.
-pub fn open(sheet: &[u8], picture_length: u64) -> (u32, Device) {
-    let parsed = if picture_length > LONGEST_MEMORY { None } else { sheet::parse(sheet) };
+/// Makes a device of a sheet, for memories of these lengths, that of the pictures first: 0, or 22 and a closed device.
+pub fn open(sheet: &[u8], lengths: [u64; 2]) -> (u32, Device) {
+    let too_long = lengths.iter().any(|length| *length > LONGEST_MEMORY);
+    let parsed = if too_long { None } else { sheet::parse(sheet) };
     match parsed {
-        Some(sheet) => (DONE, Device { opened: Some(Opened::new(sheet, picture_length)) }),
+        Some(sheet) => (DONE, Device { opened: Some(Opened::new(sheet, lengths)) }),
         None => (EINVAL, Device::closed()),
     }
 }
 
 impl Opened {
-    /// First format, greatest size, default crop, default values, no buffers.
-    fn new(sheet: Sheet, picture_length: u64) -> Opened {
+    /// First format, greatest size, default crop, default values, no services, no buffers.
+    fn new(sheet: Sheet, [picture_length, caption_length]: [u64; 2]) -> Opened {
         let mut values = [0; 32];
         for (value, control) in values.iter_mut().zip(&sheet.controls) {
             *value = control.initial;
         }
+        let picture = Picture::new(sheet.formats[0].code, sheet.width.greatest, sheet.height.greatest, sheet.alignment);
         Opened {
-            picture_length,
-            picture: Picture::new(sheet.formats[0].code, sheet.width.greatest, sheet.height.greatest, sheet.alignment),
+            picture,
             crop: sheet.default,
             values,
-            stream: Stream::default(),
+            lines: Lines::default(),
+            pictures: Stream::new(PICTURES, picture_length, picture.image_size),
+            captions: Stream::new(CAPTIONS, caption_length, 0),
             sheet,
         }
     }
 
-    /// A frame is whole if it has the image size and its microseconds are part of a second.
-    fn is_whole(&self, frame: &[u8], microseconds: i32) -> bool {
-        frame.len() == self.picture.image_size as usize && (0..=999_999).contains(&microseconds)
+    /// The stream that a buffer type names.
+    #[inline]
+    pub fn stream(&self, kind: u32) -> Option<&Stream> {
+        match kind {
+            PICTURES => Some(&self.pictures),
+            CAPTIONS => Some(&self.captions),
+            _ => None,
+        }
     }
 
-    fn arrival(&mut self, memory: &mut [u8], frame: &[u8], seconds: i32, microseconds: i32) -> Arrived {
-        if memory.len() as u64 != self.picture_length {
-            return refused(EFAULT);
+    #[inline]
+    pub fn stream_mut(&mut self, kind: u32) -> Option<&mut Stream> {
+        match kind {
+            PICTURES => Some(&mut self.pictures),
+            CAPTIONS => Some(&mut self.captions),
+            _ => None,
         }
-        if !self.stream.streaming {
-            return plain(IGNORED);
+    }
+
+    /// A picture is whole if it has the image size, a frame of captions if its lines were negotiated.
+    fn arrival(&mut self, kind: u32, memory: &mut [u8], frame: &[u8], time: (i32, i32)) -> Arrived {
+        match kind {
+            PICTURES => {
+                let size = self.picture.image_size as usize;
+                self.pictures.arrival(memory, frame, time, |frame| frame.len() == size)
+            }
+            CAPTIONS => self.captions.arrival(memory, frame, time, |frame| self.lines.carry(frame)),
+            _ => refused(EINVAL),
         }
-        if self.stream.run.accepted == RUN_LIMIT {
-            return refused(EOVERFLOW);
-        }
-        // Every arrival of the run takes a number, damaged and dropped ones too.
-        let number = self.stream.run.accepted as u32;
-        self.stream.run.accepted += 1;
-        if !self.is_whole(frame, microseconds) {
-            return plain(DAMAGED);
-        }
-        let Some(index) = self.stream.incoming.take() else {
-            return plain(DROPPED);
-        };
-        let start = index * self.picture.slot() as usize;
-        memory[start..start + frame.len()].copy_from_slice(frame);
-        self.stream.places[index] = Place::Outgoing(Frame { number, seconds, microseconds });
-        self.stream.outgoing.put(index);
-        Arrived { answer: STORED, number, buffer: index as u32 }
     }
 }
 
@@ -127,15 +134,18 @@ impl Device {
         }
     }
 
-    pub fn arrival(&mut self, memory: &mut [u8], frame: &[u8], seconds: i32, microseconds: i32) -> Arrived {
+    /// Closed first, then the type, then what the stream has to say.
+    pub fn arrival(&mut self, kind: u32, memory: &mut [u8], frame: &[u8], seconds: i32, microseconds: i32) -> Arrived {
         match &mut self.opened {
-            Some(opened) => opened.arrival(memory, frame, seconds, microseconds),
+            Some(opened) => opened.arrival(kind, memory, frame, (seconds, microseconds)),
             None => refused(EINVAL),
         }
     }
 
-    pub fn verdict(&self) -> u32 {
-        self.opened.as_ref().map_or(BLANK, |opened| opened.stream.verdict())
+    /// Of the stream that the type names; a closed device and another type have no film.
+    pub fn verdict(&self, kind: u32) -> u32 {
+        let stream = self.opened.as_ref().and_then(|opened| opened.stream(kind));
+        stream.map_or(BLANK, Stream::verdict)
     }
 
     pub fn plane(&self, frame_length: usize, plane: u32) -> Plane {

@@ -1,13 +1,15 @@
-//! The seventeen requests. Each checks type, then memory, then index or id, then the rest, and only then writes.
+//! The eighteen requests. Each checks type, then memory, then index or id, then the rest, and only then writes.
 
-use super::buffers::{self, Place, MOST};
+use super::buffers::{Place, Stream, MOST};
 use super::bytes::{put, put_signed, signed, word};
 use super::control::{self, BUTTON};
 use super::crop::Rectangle;
 use super::format::Picture;
 use super::numbers::{refuse, Outcome, EAGAIN, EBUSY, EFAULT, EINVAL, ENOTTY};
+use super::services::{Lines, OFFERED};
 use super::words::*;
 use super::Opened;
+use crate::recorder::{CAPTIONS, PICTURES};
 
 /// The argument as an array, if it is as long as the word says.
 #[inline]
@@ -15,16 +17,24 @@ fn sized<const N: usize>(argument: &mut [u8]) -> Result<&mut [u8; N], u32> {
     argument.try_into().map_err(|_| EFAULT)
 }
 
-/// The type at this place must be 1, video capture.
+/// The type at this place must be 1, video capture, where a call is about pictures alone.
 #[inline]
 fn check_type(argument: &[u8], at: usize) -> Outcome {
-    refuse(word(argument, at) != 1, EINVAL)
+    refuse(word(argument, at) != PICTURES, EINVAL)
 }
 
 /// The kind of memory at this place must be 1, mapped.
 #[inline]
 fn check_memory(argument: &[u8], at: usize) -> Outcome {
     refuse(word(argument, at) != 1, EINVAL)
+}
+
+/// The index of a buffer that exists.
+#[inline]
+fn buffer(stream: &Stream, argument: &[u8; 68]) -> Result<usize, u32> {
+    let index = word(argument, 0) as usize;
+    refuse(index >= stream.granted, EINVAL)?;
+    Ok(index)
 }
 
 impl Opened {
@@ -47,6 +57,7 @@ impl Opened {
             CROPCAP => self.cropcap(sized(argument)?),
             G_CROP => self.g_crop(sized(argument)?),
             S_CROP => self.s_crop(sized(argument)?),
+            G_SLICED_VBI_CAP => g_sliced_vbi_cap(sized(argument)?),
             _ => Err(ENOTTY),
         }
     }
@@ -57,7 +68,7 @@ impl Opened {
         argument[16..48].copy_from_slice(&identity.card);
         argument[48..80].copy_from_slice(&identity.bus);
         put(argument, 80, identity.version);
-        put(argument, 84, 0x0400_0001);
+        put(argument, 84, 0x0400_0041);
         argument[88..].fill(0);
         Ok(())
     }
@@ -74,96 +85,105 @@ impl Opened {
         Ok(())
     }
 
+    /// The stream that the type at this place names.
+    #[inline]
+    fn named(&mut self, argument: &[u8], at: usize) -> Result<&mut Stream, u32> {
+        self.stream_mut(word(argument, at)).ok_or(EINVAL)
+    }
+
     fn g_fmt(&self, argument: &mut [u8; 204]) -> Outcome {
-        check_type(argument, 0)?;
-        self.picture.answer(argument);
+        match word(argument, 0) {
+            PICTURES => self.picture.answer(argument),
+            CAPTIONS => self.lines.answer(argument),
+            _ => return Err(EINVAL),
+        }
         Ok(())
     }
 
     fn try_fmt(&self, argument: &mut [u8; 204]) -> Outcome {
-        check_type(argument, 0)?;
-        Picture::nearest(&self.sheet, argument).answer(argument);
+        match word(argument, 0) {
+            PICTURES => Picture::nearest(&self.sheet, argument).answer(argument),
+            CAPTIONS => Lines::negotiated(argument).answer(argument),
+            _ => return Err(EINVAL),
+        }
         Ok(())
     }
 
-    /// The format cannot change while buffers exist.
+    /// The format of a stream cannot change while that stream has buffers.
     fn s_fmt(&mut self, argument: &mut [u8; 204]) -> Outcome {
-        check_type(argument, 0)?;
-        refuse(self.stream.granted > 0, EBUSY)?;
-        self.picture = Picture::nearest(&self.sheet, argument);
-        self.picture.answer(argument);
+        let stream = self.named(argument, 0)?;
+        refuse(stream.granted > 0, EBUSY)?;
+        if stream.kind == PICTURES {
+            self.picture = Picture::nearest(&self.sheet, argument);
+            self.pictures.frame_size = self.picture.image_size;
+            self.picture.answer(argument);
+        } else {
+            self.lines = Lines::negotiated(argument);
+            self.captions.frame_size = self.lines.io_size();
+            self.lines.answer(argument);
+        }
         Ok(())
     }
 
     /// Grants the least of the count, 32, and what the memory holds. A count of 0 also stops a run.
     fn reqbufs(&mut self, argument: &mut [u8; 20]) -> Outcome {
-        check_type(argument, 4)?;
+        let stream = self.named(argument, 4)?;
         check_memory(argument, 8)?;
         let count = word(argument, 0);
-        refuse(count > 0 && self.stream.streaming, EBUSY)?;
-        let fitting = self.picture_length / self.picture.slot();
-        let granted = fitting.min(count as u64).min(MOST as u64);
-        self.stream.grant(granted as usize);
+        refuse(count > 0 && stream.streaming, EBUSY)?;
+        let granted = stream.fitting().min(count as u64).min(MOST as u64);
+        stream.grant(granted as usize);
         put(argument, 0, granted as u32);
         argument[12..].fill(0);
         Ok(())
     }
 
-    /// The index of a buffer that exists.
-    #[inline]
-    fn buffer(&self, argument: &[u8; 68]) -> Result<usize, u32> {
-        let index = word(argument, 0) as usize;
-        refuse(index >= self.stream.granted, EINVAL)?;
-        Ok(index)
-    }
-
     fn querybuf(&self, argument: &mut [u8; 68]) -> Outcome {
-        check_type(argument, 4)?;
-        let index = self.buffer(argument)?;
-        self.stream.describe(index, &self.picture, argument);
+        let stream = self.stream(word(argument, 4)).ok_or(EINVAL)?;
+        let index = buffer(stream, argument)?;
+        stream.describe(index, argument);
         Ok(())
     }
 
     /// Only a dequeued buffer can be queued; it becomes the youngest incoming one.
     fn qbuf(&mut self, argument: &mut [u8; 68]) -> Outcome {
-        check_type(argument, 4)?;
+        let stream = self.named(argument, 4)?;
         check_memory(argument, 48)?;
-        let index = self.buffer(argument)?;
-        refuse(!matches!(self.stream.places[index], Place::Dequeued), EINVAL)?;
-        self.stream.places[index] = Place::Incoming;
-        self.stream.incoming.put(index);
-        self.stream.describe(index, &self.picture, argument);
+        let index = buffer(stream, argument)?;
+        refuse(!matches!(stream.places[index], Place::Dequeued), EINVAL)?;
+        stream.places[index] = Place::Incoming;
+        stream.incoming.put(index);
+        stream.describe(index, argument);
         Ok(())
     }
 
     /// Hands over the oldest outgoing buffer. In a run an attempt that finds none is to be made again, and is not counted;
     /// outside of one there is nothing to wait for.
     fn dqbuf(&mut self, argument: &mut [u8; 68]) -> Outcome {
-        check_type(argument, 4)?;
+        let stream = self.named(argument, 4)?;
         check_memory(argument, 48)?;
-        refuse(self.stream.granted == 0 || !self.stream.streaming, EINVAL)?;
-        let index = self.stream.outgoing.take().ok_or(EAGAIN)?;
-        let frame = match self.stream.places[index] {
+        refuse(stream.granted == 0 || !stream.streaming, EINVAL)?;
+        let index = stream.outgoing.take().ok_or(EAGAIN)?;
+        let frame = match stream.places[index] {
             Place::Outgoing(frame) => Some(frame),
             _ => None,
         };
-        self.stream.places[index] = Place::Dequeued;
-        self.stream.run.handed_over += 1;
-        buffers::answer(index, 0, frame, &self.picture, argument);
+        stream.places[index] = Place::Dequeued;
+        stream.run.handed_over += 1;
+        stream.answer(index, 0, frame, argument);
         Ok(())
     }
 
     fn streamon(&mut self, argument: &[u8; 4]) -> Outcome {
-        check_type(argument, 0)?;
-        refuse(self.stream.granted == 0, EINVAL)?;
-        self.stream.start();
+        let stream = self.named(argument, 0)?;
+        refuse(stream.granted == 0, EINVAL)?;
+        stream.start();
         Ok(())
     }
 
     /// Stops, streaming or not, with buffers or without.
     fn streamoff(&mut self, argument: &[u8; 4]) -> Outcome {
-        check_type(argument, 0)?;
-        self.stream.stop();
+        self.named(argument, 0)?.stop();
         Ok(())
     }
 
@@ -215,4 +235,12 @@ impl Opened {
         self.crop = Rectangle::read(argument, 4).inside(&self.sheet.bounds);
         Ok(())
     }
+}
+
+/// What is offered is the same for every device: the type, 6 alone, stays as it was asked.
+fn g_sliced_vbi_cap(argument: &mut [u8; 116]) -> Outcome {
+    refuse(word(argument, 100) != CAPTIONS, EINVAL)?;
+    OFFERED.write(argument, 0);
+    argument[104..].fill(0);
+    Ok(())
 }

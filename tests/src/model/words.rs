@@ -1,4 +1,4 @@
-//! The seventeen request words.
+//! The eighteen request words.
 
 pub const QUERYCAP: u32 = 0x8068_5600;
 pub const ENUM_FMT: u32 = 0xC040_5602;
@@ -17,9 +17,10 @@ pub const QUERYCTRL: u32 = 0xC044_5624;
 pub const CROPCAP: u32 = 0xC02C_563A;
 pub const G_CROP: u32 = 0xC014_563B;
 pub const S_CROP: u32 = 0x4014_563C;
+pub const G_SLICED_VBI_CAP: u32 = 0xC074_5645;
 
 /// All of them, with their names.
-pub const ALL: [(u32, &str); 17] = [
+pub const ALL: [(u32, &str); 18] = [
     (QUERYCAP, "QUERYCAP"),
     (ENUM_FMT, "ENUM_FMT"),
     (G_FMT, "G_FMT"),
@@ -37,9 +38,20 @@ pub const ALL: [(u32, &str); 17] = [
     (CROPCAP, "CROPCAP"),
     (G_CROP, "G_CROP"),
     (S_CROP, "S_CROP"),
+    (G_SLICED_VBI_CAP, "G_SLICED_VBI_CAP"),
 ];
 
 /// The argument size that a word names in its bits 29 to 16.
 pub const fn size(word: u32) -> usize {
     (word >> 16 & 0x3fff) as usize
+}
+
+/// Where the argument of a word names a buffer type, if it does.
+pub const fn type_at(word: u32) -> Option<usize> {
+    match word {
+        ENUM_FMT | REQBUFS | QUERYBUF | QBUF | DQBUF => Some(4),
+        G_FMT | S_FMT | TRY_FMT | STREAMON | STREAMOFF | CROPCAP | G_CROP | S_CROP => Some(0),
+        G_SLICED_VBI_CAP => Some(100),
+        _ => None,
+    }
 }

@@ -1,5 +1,6 @@
 -- The table is computed, both sides of every row. Assumes nothing.
-use mathlib.Core.Path.{refl}
+use mathlib.Core.Path.{_≡_, refl}
+use mathlib.Core.List.{map}
 use Rattle.wire_read.specs.Words.{wordAt, le32, bytesOf}
 use Rattle.wire_signed.specs.Signed.{signed, bits, signedAt, above}
 use Rattle.sheet_contents.specs.Contents.{geometryAt, controlsAt, controlCount, controlAt}
@@ -26,6 +27,13 @@ use Rattle.run_calls.specs.Runs.{streamonOf, streamoffOf}
 use Rattle.device_opening.specs.Opening.{openedOf}
 use Rattle.request_topics.specs.Request.{requestAnswer}
 use Rattle.device_film.specs.Film.{deviceVerdict}
+use Rattle.stream_words.specs.Lists.{tab}
+use Rattle.sheet_rules.specs.Folds.{anyBelow}
+use Rattle.service_rules.specs.Services.{has, setOf, offeredAt, capabilityLines}
+use Rattle.service_rules.specs.Negotiation.{common, fittingAt, negotiatedLines, unionOf, countBelow, ioSize}
+use Rattle.service_replies.specs.Halves.{halfAt}
+use Rattle.service_replies.specs.Services.{askedServices}
+use Rattle.service_calls.specs.Services.{sServicesOf}
 use Rattle.bench_sheet.proofs.Good.{bench-good}
 use Rattle.plane_rules.specs.Planes.{planesOf, componentOf, componentLength, planeLength, planeStart}
 use Rattle.negotiation_rules.specs.Negotiation.{negotiated}
@@ -35,14 +43,23 @@ use Rattle.control_place_rules.specs.Find.{present, placeOf}
 use Rattle.control_value_rules.specs.Values.{rangedAt, settingAt, settingOf}
 use Rattle.control_calls.specs.Controls.{sCtrlOf}
 use Rattle.control_replies.specs.Replies.{valueReply}
-use Rattle.bench_sheet.specs.Bench.{benchSheet}
-use Rattle.bench_figures.specs.Figures.{figures}
+use Rattle.bench_sheet.specs.Bench.{benchSheet, benchMemory}
+use Rattle.bench_figures.specs.Figures.{opened, figuresOf, figures, captionMemory}
 use Rattle.bench_figures.proofs.bench_figures.Statement.{statement}
 use Rattle.bench_figures.proofs.bench_figures.Tie as tie
 
+-- the bench sheet is good, so the opening is not refused
+opened-good : opened ≡ openingState (keptOf benchSheet) benchMemory captionMemory
+unfolding opened openedOf
+opened-good = rw (bench-good, opened) refl
+
+computed : map (λ f. f .got) (figuresOf (openingState (keptOf benchSheet) benchMemory captionMemory)) ≡ map (λ f. f .expected) (figuresOf (openingState (keptOf benchSheet) benchMemory captionMemory))
+unfolding figuresOf halfAt askedServices sServicesOf tab anyBelow has setOf offeredAt capabilityLines common fittingAt negotiatedLines unionOf countBelow ioSize keptOf knownWords callOf requestOf openingState openingFormat openingValues defaultValues freshStream emptied requestAnswer reqbufsOf streamonOf streamoffOf bufferRequest startOf started stopOf stopped deviceVerdict verdictOf verdictAfter formatCode formatAt formatsAt heightsOf grantOf benchSheet wordAt le32 bytesOf signed bits signedAt above geometryAt controlsAt controlCount controlAt controlId controlKind limitsOf controlFlags controlFields rangeAt widthsOf lineAlignment rectAt cropBounds cropDefault nearestMultiple nearestUpTo nearestSize nearestValue bytesPerPixel halfChroma roundUp bytesPerLine heldHeight firstPlane imageSize slotSize planesOf componentOf componentLength planeLength planeStart negotiated minZ maxZ clampZ sizeIn clampedPlace widthIn leftIn clamped firstFrom firstBelow present placeOf rangedAt settingAt settingOf sCtrlOf valueReply
+computed = refl
+
 returns : tie.Need-returns
-unfolding figures keptOf knownWords callOf requestOf openedOf openingState openingFormat openingValues defaultValues freshStream emptied requestAnswer reqbufsOf streamonOf streamoffOf bufferRequest startOf started stopOf stopped deviceVerdict verdictOf verdictAfter formatCode formatAt formatsAt heightsOf grantOf benchSheet wordAt le32 bytesOf signed bits signedAt above geometryAt controlsAt controlCount controlAt controlId controlKind limitsOf controlFlags controlFields rangeAt widthsOf lineAlignment rectAt cropBounds cropDefault nearestMultiple nearestUpTo nearestSize nearestValue bytesPerPixel halfChroma roundUp bytesPerLine heldHeight firstPlane imageSize slotSize planesOf componentOf componentLength planeLength planeStart negotiated minZ maxZ clampZ sizeIn clampedPlace widthIn leftIn clamped firstFrom firstBelow present placeOf rangedAt settingAt settingOf sCtrlOf valueReply
-returns c = rw bench-good refl
+unfolding figures
+returns c = rw opened-good computed
 
 pub bench-figures-spec : {M : Type 1} → statement M
 bench-figures-spec = tie.close (tie.spec returns)

@@ -1,7 +1,5 @@
 -- The time from its bits, then what the device promises; the answer as its numbers. Assumes nothing.
-use mathlib.Core.Path.{_∙_, ap}
-use Rattle.arrival_replies.specs.Answer.{toldOf}
-use Rattle.device_film.specs.Film.{Taken}
+use mathlib.Core.Path.{refl}
 use borrow.Author.Needs.{needs}
 use Rattle.device_numbers.proofs.arrive.Statement.{statement}
 use Rattle.device_numbers.proofs.arrive.Tie as tie
@@ -20,9 +18,9 @@ same-length c = search needs
 
 returns : tie.Need-returns
 returns c v =
-    let t = c .before .before .before .before .before .before .time-of .ensures in
+    let t = c .before .before .before .before .before .before .before .time-of .ensures in
     let e = c .before .before .before .arrive .ensures v in
-    (rw (← t) (c .answer-numbers .ensures ∙ ap (λ (z : Taken). toldOf (z .arrival)) (e .0)), rw (← t) (ap (λ (z : Taken). z .state) (e .0)), rw (← t) (e .1))
+    rw (← t, ← e .0) (c .answer-numbers .ensures, refl, e .1)
 
 pub arrive-spec : {M : Type 1} → statement M
 arrive-spec =

@@ -13,7 +13,7 @@ verdict-number-requires : tie.Need-verdict-number-requires
 verdict-number-requires c κs = search needs
 
 returns : tie.Need-returns
-returns c v = c .verdict-number .ensures ∙ ap (λ (x : Verdict). verdictNumber x) (c .before .verdict-of .ensures v)
+returns c v l = c .verdict-number .ensures ∙ ap (λ (x : Verdict). verdictNumber x) (c .before .verdict-of .ensures v l)
 
 pub verdict-spec : {M : Type 1} → statement M
 verdict-spec = tie.close (tie.spec verdict-of-requires verdict-number-requires returns)

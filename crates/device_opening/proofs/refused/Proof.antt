@@ -14,9 +14,14 @@ closed-requires c κs = search needs
 fresh-requires : tie.Need-fresh-requires
 fresh-requires c κs = search needs
 
+fresh-requires-2 : tie.Need-fresh-requires-2
+fresh-requires-2 c κs = search needs
+
 returns : tie.Need-returns
 unfolding closedBy closedState
-returns c = rw (c .before .before .errno .ensures, c .before .closed .ensures, c .fresh .ensures)
+returns c =
+    rw (c .before .before .before .errno .ensures, c .before .before .closed .ensures, c .before .fresh .ensures, c .fresh2 .ensures)
 
 pub refused-spec : {M : Type 1} → statement M
-refused-spec = tie.close (tie.spec errno-requires closed-requires fresh-requires returns)
+refused-spec =
+    tie.close (tie.spec errno-requires closed-requires fresh-requires fresh-requires-2 returns)

@@ -37,7 +37,7 @@ returns c =
     let a = z .before .before .before .before .before .args in
     let s = now (a .sheet) in
     rw (w .put-word .ensures, p .put-part .ensures, p .before .identity-at .ensures, z .put-bytes .ensures)
-    (two-pieces (replicate 104 0) (now (a .argument)) (take 84 (drop (identityAt s) s)) (le32 0x04000001) 0 84
+    (two-pieces (replicate 104 0) (now (a .argument)) (take 84 (drop (identityAt s) s)) (le32 0x04000041) 0 84
     (simp length-replicate (omega (arith, length-take 84 (drop (identityAt s) s))))
     (simp length-replicate (omega arith)))
 

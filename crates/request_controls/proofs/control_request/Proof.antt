@@ -88,7 +88,7 @@ returns-7 : tie.Need-returns-7
 returns-7 c x =
     let a = c .before .before .before .before .args in
     let d = withValues x (now (a .values)) in
-    topic-other 3 (a .call) (now (a .sheet)) d (now (a .argument)) (elsewhere 3 (0 ∷ 1 ∷ 2 ∷ 3 ∷ 4 ∷ 5 ∷ 6 ∷ 7 ∷ 8 ∷ 9 ∷ 10 ∷ 11 ∷ 15 ∷ 16 ∷ 17 ∷ []) tt (a .call) (c .before .match .keys4)) (c .errno4 .ensures)
+    topic-other 3 (a .call) (now (a .sheet)) d (now (a .argument)) (elsewhere 3 (0 ∷ 1 ∷ 2 ∷ 3 ∷ 4 ∷ 5 ∷ 6 ∷ 7 ∷ 8 ∷ 9 ∷ 10 ∷ 11 ∷ 15 ∷ 16 ∷ 17 ∷ 18 ∷ []) tt (a .call) (c .before .match .keys4)) (c .errno4 .ensures)
 
 pub control-request-spec : {M : Type 1} → statement M
 control-request-spec =

@@ -16,6 +16,9 @@ topic-requires c κs = search needs
 element-copy-out-setting-request : tie.Need-element-copy-out-setting-request
 element-copy-out-setting-request c = search needs
 
+element-copy-out-setting-request-2 : tie.Need-element-copy-out-setting-request-2
+element-copy-out-setting-request-2 c = search needs
+
 setting-request-requires : tie.Need-setting-request-requires
 setting-request-requires c κs = search needs
 
@@ -36,9 +39,9 @@ same-length c = search needs
 
 returns : tie.Need-returns
 returns c =
-    let a = c .before .before .before .before .before .before .before .before .before .before .args in
-    let d = stateIn (now (a .setup)) (now (a .values)) (now (a .video)) in
-    topic-called 1 (a .call) (now (a .sheet)) d (now (a .argument)) (c .before .before .before .before .before .before .before .topic .ensures) (c .before .before .before .before .before .before .match .keys1) (c .before .before .setting-request .ensures d (granted-is (now (a .video))))
+    let a = c .before .before .before .before .before .before .before .before .before .before .before .before .args in
+    let d = stateIn (now (a .setup)) (now (a .values)) (now (a .services)) (now (a .video)) (now (a .captions)) in
+    topic-called 1 (a .call) (now (a .sheet)) d (now (a .argument)) (c .before .before .before .before .before .before .before .before .before .topic .ensures) (c .before .before .before .before .before .before .before .before .match .keys1) (c .before .before .setting-request .ensures d (granted-is (now (a .video))) (granted-is (now (a .captions))))
 
 same-length-2 : tie.Need-same-length-2
 same-length-2 c = search needs
@@ -46,9 +49,9 @@ same-length-2 c = search needs
 returns-2 : tie.Need-returns-2
 unfolding setupIn
 returns-2 c =
-    let a = c .before .before .before .before .before .before .before .before .before .before .args in
-    let d = stateIn (now (a .setup)) (now (a .values)) (now (a .video)) in
-    topic-called 2 (a .call) (now (a .sheet)) d (now (a .argument)) (c .before .before .before .before .before .before .before .topic .ensures) (c .before .before .before .before .before .before .match .keys2) (c .before .before .stream-request .ensures (now (a .sheet)) d refl)
+    let a = c .before .before .before .before .before .before .before .before .before .before .before .before .args in
+    let d = stateIn (now (a .setup)) (now (a .values)) (now (a .services)) (now (a .video)) (now (a .captions)) in
+    topic-called 2 (a .call) (now (a .sheet)) d (now (a .argument)) (c .before .before .before .before .before .before .before .before .before .topic .ensures) (c .before .before .before .before .before .before .before .before .match .keys2) (c .before .before .stream-request .ensures (now (a .sheet)) d refl refl)
 
 same-length-3 : tie.Need-same-length-3
 same-length-3 c = search needs
@@ -56,13 +59,13 @@ same-length-3 c = search needs
 returns-3 : tie.Need-returns-3
 returns-3 c =
     let a = c .before .before .before .before .before .before .before .before .before .args in
-    let d = stateIn (now (a .setup)) (now (a .values)) (now (a .video)) in
+    let d = stateIn (now (a .setup)) (now (a .values)) (now (a .services)) (now (a .video)) (now (a .captions)) in
     topic-called 3 (a .call) (now (a .sheet)) d (now (a .argument)) (c .before .before .before .before .before .before .topic .ensures) (c .before .before .before .before .before .match .keys3) (c .before .before .control-request .ensures d)
 
 returns-4 : tie.Need-returns-4
 returns-4 c =
     let a = c .before .before .before .before .before .args in
-    let d = stateIn (now (a .setup)) (now (a .values)) (now (a .video)) in
+    let d = stateIn (now (a .setup)) (now (a .values)) (now (a .services)) (now (a .video)) (now (a .captions)) in
     topic-nothing (now (a .sheet)) d (now (a .argument)) (a .call) (c .before .before .topic .ensures) (c .before .match .rest .0 .0 .1) (c .before .match .rest .0 .1) (c .before .match .rest .1) (c .errno .ensures)
 
 pub called-spec : {M : Type 1} → statement M
@@ -71,6 +74,7 @@ called-spec =
     (tie.spec
     topic-requires
     element-copy-out-setting-request
+    element-copy-out-setting-request-2
     setting-request-requires
     element-copy-out-stream-request
     stream-request-requires

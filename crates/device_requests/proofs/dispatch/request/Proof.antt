@@ -17,7 +17,7 @@ returns : tie.Need-returns
 unfolding setupIn
 returns c =
     let a = c .before .before .before .before .before .args in
-    request-closed _ (stateIn (now (a .setup)) (now (a .values)) (now (a .video))) _ _ (c .before .if1 .taken) (c .errno .ensures)
+    request-closed _ (stateIn (now (a .setup)) (now (a .values)) (now (a .services)) (now (a .video)) (now (a .captions))) _ _ (c .before .if1 .taken) (c .errno .ensures)
 
 lookup-requires : tie.Need-lookup-requires
 lookup-requires c κs = search needs
@@ -31,8 +31,8 @@ same-length c = search needs
 returns-2 : tie.Need-returns-2
 unfolding setupIn
 returns-2 c =
-    let a = c .before .before .before .before .before .before .before .before .before .before .before .before .args in
-    request-checked _ (stateIn (now (a .setup)) (now (a .values)) (now (a .video))) _ _ (c .before .before .before .before .before .before .before .before .if1 .left) (c .before .before .before .before .before .before .before .lookup .ensures .0) (c .before .before .called .ensures)
+    let a = c .before .before .before .before .before .before .before .before .before .before .before .before .before .before .args in
+    request-checked _ (stateIn (now (a .setup)) (now (a .values)) (now (a .services)) (now (a .video)) (now (a .captions))) _ _ (c .before .before .before .before .before .before .before .before .before .before .if1 .left) (c .before .before .before .before .before .before .before .before .before .lookup .ensures .0) (c .before .before .called .ensures)
 
 pub request-spec : {M : Type 1} → statement M
 request-spec =

@@ -60,6 +60,9 @@ asks-requires-17 c κs = search needs
 asks-requires-18 : tie.Need-asks-requires-18
 asks-requires-18 c κs = search needs
 
+asks-requires-19 : tie.Need-asks-requires-19
+asks-requires-19 c κs = search needs
+
 returns : tie.Need-returns
 unfolding knownWords callOf requestOf
 returns c = rw (c .asks .ensures, c .before .match .keys1)
@@ -130,28 +133,33 @@ returns-17 c = rw (c .asks17 .ensures, c .before .match .keys17)
 
 returns-18 : tie.Need-returns-18
 unfolding knownWords callOf requestOf
-returns-18 c =
+returns-18 c = rw (c .asks18 .ensures, c .before .match .keys18)
+
+returns-19 : tie.Need-returns-19
+unfolding knownWords callOf requestOf
+returns-19 c =
     let w = c .before .before .args .w in
     let none = c .before .match .rest in
     rw (
-      c .asks18 .ensures,
-      ne-eqb 0x80685600 w (λ e. none .0 .0 .0 .0 .0 .0 .0 .0 .0 .0 .0 .0 .0 .0 .0 .0 .1 (sym e)),
-      ne-eqb 0xC0405602 w (λ e. none .0 .0 .0 .0 .0 .0 .0 .0 .0 .0 .0 .0 .0 .0 .0 .1 (sym e)),
-      ne-eqb 0xC0CC5604 w (λ e. none .0 .0 .0 .0 .0 .0 .0 .0 .0 .0 .0 .0 .0 .0 .1 (sym e)),
-      ne-eqb 0xC0CC5605 w (λ e. none .0 .0 .0 .0 .0 .0 .0 .0 .0 .0 .0 .0 .0 .1 (sym e)),
-      ne-eqb 0xC0CC5640 w (λ e. none .0 .0 .0 .0 .0 .0 .0 .0 .0 .0 .0 .0 .1 (sym e)),
-      ne-eqb 0xC0145608 w (λ e. none .0 .0 .0 .0 .0 .0 .0 .0 .0 .0 .0 .1 (sym e)),
-      ne-eqb 0xC0445609 w (λ e. none .0 .0 .0 .0 .0 .0 .0 .0 .0 .0 .1 (sym e)),
-      ne-eqb 0xC044560F w (λ e. none .0 .0 .0 .0 .0 .0 .0 .0 .0 .1 (sym e)),
-      ne-eqb 0xC0445611 w (λ e. none .0 .0 .0 .0 .0 .0 .0 .0 .1 (sym e)),
-      ne-eqb 0x40045612 w (λ e. none .0 .0 .0 .0 .0 .0 .0 .1 (sym e)),
-      ne-eqb 0x40045613 w (λ e. none .0 .0 .0 .0 .0 .0 .1 (sym e)),
-      ne-eqb 0xC008561B w (λ e. none .0 .0 .0 .0 .0 .1 (sym e)),
-      ne-eqb 0xC008561C w (λ e. none .0 .0 .0 .0 .1 (sym e)),
-      ne-eqb 0xC0445624 w (λ e. none .0 .0 .0 .1 (sym e)),
-      ne-eqb 0xC02C563A w (λ e. none .0 .0 .1 (sym e)),
-      ne-eqb 0xC014563B w (λ e. none .0 .1 (sym e)),
-      ne-eqb 0x4014563C w (λ e. none .1 (sym e)),
+      c .asks19 .ensures,
+      ne-eqb 0x80685600 w (λ e. none .0 .0 .0 .0 .0 .0 .0 .0 .0 .0 .0 .0 .0 .0 .0 .0 .0 .1 (sym e)),
+      ne-eqb 0xC0405602 w (λ e. none .0 .0 .0 .0 .0 .0 .0 .0 .0 .0 .0 .0 .0 .0 .0 .0 .1 (sym e)),
+      ne-eqb 0xC0CC5604 w (λ e. none .0 .0 .0 .0 .0 .0 .0 .0 .0 .0 .0 .0 .0 .0 .0 .1 (sym e)),
+      ne-eqb 0xC0CC5605 w (λ e. none .0 .0 .0 .0 .0 .0 .0 .0 .0 .0 .0 .0 .0 .0 .1 (sym e)),
+      ne-eqb 0xC0CC5640 w (λ e. none .0 .0 .0 .0 .0 .0 .0 .0 .0 .0 .0 .0 .0 .1 (sym e)),
+      ne-eqb 0xC0145608 w (λ e. none .0 .0 .0 .0 .0 .0 .0 .0 .0 .0 .0 .0 .1 (sym e)),
+      ne-eqb 0xC0445609 w (λ e. none .0 .0 .0 .0 .0 .0 .0 .0 .0 .0 .0 .1 (sym e)),
+      ne-eqb 0xC044560F w (λ e. none .0 .0 .0 .0 .0 .0 .0 .0 .0 .0 .1 (sym e)),
+      ne-eqb 0xC0445611 w (λ e. none .0 .0 .0 .0 .0 .0 .0 .0 .0 .1 (sym e)),
+      ne-eqb 0x40045612 w (λ e. none .0 .0 .0 .0 .0 .0 .0 .0 .1 (sym e)),
+      ne-eqb 0x40045613 w (λ e. none .0 .0 .0 .0 .0 .0 .0 .1 (sym e)),
+      ne-eqb 0xC008561B w (λ e. none .0 .0 .0 .0 .0 .0 .1 (sym e)),
+      ne-eqb 0xC008561C w (λ e. none .0 .0 .0 .0 .0 .1 (sym e)),
+      ne-eqb 0xC0445624 w (λ e. none .0 .0 .0 .0 .1 (sym e)),
+      ne-eqb 0xC02C563A w (λ e. none .0 .0 .0 .1 (sym e)),
+      ne-eqb 0xC014563B w (λ e. none .0 .0 .1 (sym e)),
+      ne-eqb 0x4014563C w (λ e. none .0 .1 (sym e)),
+      ne-eqb 0xC0745645 w (λ e. none .1 (sym e)),
     )
 
 pub row-spec : {M : Type 1} → statement M
@@ -176,6 +184,7 @@ row-spec =
     asks-requires-16
     asks-requires-17
     asks-requires-18
+    asks-requires-19
     returns
     returns-2
     returns-3
@@ -193,4 +202,5 @@ row-spec =
     returns-15
     returns-16
     returns-17
-    returns-18)
+    returns-18
+    returns-19)

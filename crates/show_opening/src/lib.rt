@@ -1,0 +1,15 @@
+// The bench's device, opened with its sheet as it is or damaged. No contract here says more than that the function is safe and ends.
+use device_opening::Made;
+
+// A device is opened: a word of the argument says how long its picture memory is, the next how much of the sheet is lent, the next is the
+// sheet's least width, the last the length of its caption memory.
+pub fn open(a: &[u8]) -> Made {
+    let mut bytes = bench_sheet::sheet();
+    wire_store::put_word(&mut bytes, 188, wire_read::word_at(a, 8));
+    let lent = wire_read::part(&bytes, 0, wire_read::word_at(a, 4) as usize);
+    device_opening::open_device(
+        lent,
+        wire_read::word_at(a, 0) as u64,
+        wire_read::word_at(a, 12) as u64,
+    )
+}
