@@ -80,7 +80,8 @@ use Rattle.claims.specs.Device.{streamOf}
 use Rattle.claims.specs.Table.{named, kindOf, paperAt}
 use Rattle.claims.specs.Desk.{Desk, openingDesk, valueOn, chosen, choice, deskFrom, deskIn}
 use Rattle.claims.specs.Answers.{queuesOn, statusOn, firstOn, answerOn, planeOn}
-use Rattle.claims.specs.Meets.{Answers}
+use Rattle.claims.specs.Demands.{Answers}
+use Rattle.claims.proofs.Sessions.{every, desk-more}
 use Rattle.claims.proofs.Boxes.{Box, opened, asks, reply, next, paperAfter, boxAfter, ours}
 use Rattle.claims.proofs.Steps.{view, boxWith, byKind, Safe, Foretold, Does, whole-reply, does-call, kind-view}
 use Rattle.claims.proofs.Checks.{sizeOf}
@@ -92,7 +93,6 @@ use Rattle.claims.proofs.Told.{kept-present, kept-place, kept-queried, 
 use Rattle.claims.proofs.Tried.{kept-negotiated, kept-told}
 use Rattle.claims.proofs.Queued.{querybuf-answers}
 use Rattle.claims.proofs.Services.{setDesk}
-use Rattle.claims.proofs.Alike.{every, desk-more}
 use Rattle.service_replies.specs.Services.{linesAt, askedServices, servicesReply, servicesCapabilityReply}
 use Rattle.service_replies.proofs.Reply.{services-length, told-lines, asked-length, asked-fit, capability-length as services-capability-length}
 use Rattle.service_calls.specs.Services.{gServicesOf, sServicesOf, tryServicesOf, servicesCapabilityOf}

@@ -9,10 +9,9 @@ use Rattle.device_opening.specs.Opening.{Whole, openedOf}
 use Rattle.device_film.specs.Film.{takenOf, takenMemory}
 use Rattle.claims.specs.Calls.{Kind, Call, arrivalTime}
 use Rattle.claims.specs.Calls.Call.{request, arrival}
-use Rattle.claims.specs.Machine.{Session}
+use Rattle.claims.specs.Machine.{Session, Machine}
 use Rattle.claims.specs.Device.{Kept, takes, goesOn, keptAfter, machineOf, ourDevice}
-use Rattle.claims.specs.Meets.{Meets}
-use Rattle.claims.proofs.Waiting.{stopped-or-idle}
+use Rattle.claims.specs.Demands.{Demand1, Demand2, Demand3, Counts, Answers}
 use Rattle.claims.proofs.Boxes.{Box, opened, next, after, ours}
 use Rattle.claims.proofs.Told.{told-1}
 use Rattle.claims.proofs.Tried.{told-2}
@@ -46,8 +45,21 @@ seen n k = record {
 pub same-machine : machineOf ourDevice ≡ ours
 same-machine = fun-ext λ s. fun-ext λ m. ap (seen (openedOf s (length (m Kind.pictures)) (length (m Kind.captions)) .number)) (fun-ext λ cs. same-after cs (opened s m))
 
-ours-meets : Meets ours
-ours-meets = record { demand-1 = told-1; demand-2 = told-2; demand-3 = told-3; counts = told-counts; answers = told-answers; stopped-or-idle = λ s m k. stopped-or-idle s m k (ours s m) (told-1 s m) }
+-- what was proved of that machine holds of our device
+of-device : (P : Machine → Type 0) → P ours → P (machineOf ourDevice)
+of-device P = subst P (sym same-machine)
 
-pub device-meets : Meets (machineOf ourDevice)
-device-meets = subst Meets (sym same-machine) ours-meets
+pub device-1 : (s : List ℕ) (m : Kind → List ℕ) → Demand1 s m (machineOf ourDevice s m)
+device-1 = of-device (λ (M : Machine). (s : List ℕ) (m : Kind → List ℕ) → Demand1 s m (M s m)) told-1
+
+pub device-2 : (s : List ℕ) (m : Kind → List ℕ) → Demand2 s (machineOf ourDevice s m)
+device-2 = of-device (λ (M : Machine). (s : List ℕ) (m : Kind → List ℕ) → Demand2 s (M s m)) told-2
+
+pub device-3 : (s : List ℕ) (m : Kind → List ℕ) (k : Kind) → Demand3 s m (machineOf ourDevice s m) k
+device-3 = of-device (λ (M : Machine). (s : List ℕ) (m : Kind → List ℕ) (k : Kind) → Demand3 s m (M s m) k) told-3
+
+pub device-counts : (s : List ℕ) (m : Kind → List ℕ) (k : Kind) → Counts s (machineOf ourDevice s m) k
+device-counts = of-device (λ (M : Machine). (s : List ℕ) (m : Kind → List ℕ) (k : Kind) → Counts s (M s m) k) told-counts
+
+pub device-answers : (s : List ℕ) (m : Kind → List ℕ) → Answers s m (machineOf ourDevice s m)
+device-answers = of-device (λ (M : Machine). (s : List ℕ) (m : Kind → List ℕ) → Answers s m (M s m)) told-answers

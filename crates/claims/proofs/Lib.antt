@@ -9,15 +9,11 @@ pub mod Demand
 pub mod Totals
 pub mod Formats
 pub mod Arrivals
+pub mod Sessions
 pub mod Services
 pub mod Lists
 pub mod Told
 pub mod Tried
 pub mod Queued
 pub mod Answered
-pub mod Sessions
 pub mod Devices
-pub mod Alike
-pub mod InForce
-pub mod Switched
-pub mod Waiting

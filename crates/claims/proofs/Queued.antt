@@ -45,7 +45,7 @@ use Rattle.claims.specs.Table.{kindOf}
 use Rattle.claims.specs.Device.{lentTo, streamOf}
 use Rattle.claims.proofs.Checks.{sizeOf}
 use Rattle.claims.proofs.Open.{same-type, kind-back, size-back}
-use Rattle.claims.specs.Meets.{since, StoredInIt, ReturnedWithIt, Comes, Demand3, Counts}
+use Rattle.claims.specs.Demands.{since, StoredInIt, ReturnedWithIt, Comes, Demand3, Counts}
 use Rattle.claims.proofs.Boxes as boxes
 use Rattle.claims.proofs.Boxes.{Box, opened, asks, arrives, reply, seen, next, after, events, paperAfter, handedAfter, boxAfter, ours}
 use Rattle.claims.proofs.Steps.{whole-reply}

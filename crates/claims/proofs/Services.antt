@@ -50,11 +50,11 @@ use Rattle.claims.specs.Calls.Reply.{answered, taken}
 use Rattle.claims.specs.Machine.{more, replyIn}
 use Rattle.claims.specs.Table.{named}
 use Rattle.claims.specs.Desk.{Desk, chosen, choice, openingDesk, deskIn}
+use Rattle.claims.proofs.Sessions.{every, desk-more}
 use Rattle.claims.proofs.Boxes.{Box, opened, asks, reply, seen, next, boxAfter, ours}
 use Rattle.claims.proofs.Steps.{whole-reply}
 use Rattle.claims.proofs.Formats.{Reached, reached, of-stream, set-pictures, set-captions}
 use Rattle.claims.proofs.Honest.{honest-request}
-use Rattle.claims.proofs.Alike.{every, desk-more}
 
 module _ (s : List ℕ) (d : State) (a : List ℕ) where
   -- a test before the rest

@@ -1,5 +1,5 @@
 -- What is told of any session, one call at a time.
-use mathlib.Core.Path.{_≡_, refl, sym, ap, ap₂, _∙_}
+use mathlib.Core.Path.{_≡_, refl, sym, ap, ap₂, _∙_, subst}
 use mathlib.Core.Bool.{Bool, true, false, cond, not}
 use Prim.Native.Nat.{ℕ}
 use native.Mathlib.Omega.{arith}
@@ -18,10 +18,28 @@ use Rattle.stream_history.specs.Paper.Event.{idle}
 use Rattle.stream_history.proofs.Machine.{noted-tells}
 use Rattle.claims.specs.Calls.{Kind, typeOf, Call}
 use Rattle.claims.specs.Calls.Call.{request, arrival}
-use Rattle.claims.specs.Machine.{Session, more}
+use Rattle.claims.specs.Machine.{Session, more, replyIn}
 use Rattle.claims.specs.Words.{toldBy, arrivalTold, told, seenIn, openingSize, eventsIn, paperIn}
-use Rattle.claims.specs.Desk.{deskIn}
+use Rattle.claims.specs.Desk.{Desk, openingDesk, choice, deskFrom, deskIn}
 use Rattle.claims.specs.Table.{Check, firstNumber, refusedBy, placedOn, wholeOn, arrivedOn, arrivalNumber}
+
+-- what holds at first, and with each call more, holds after every list
+pub every : (P : List Call → Type 0) → P [] → ((h : List Call) (c : Call) → P h → P (more h c)) → (cs : List Call) → P cs
+every P first on cs = go cs [] first
+  where
+    go : (cs h : List Call) → P h → P (h ++ cs)
+    go [] h p = subst P (sym (append-nil h)) p
+    go (c ∷ cs) h p = subst P (append-assoc h (c ∷ []) cs) (go cs (more h c) (on h c p))
+
+-- the desk after one call more
+desk-append : (s : List ℕ) (S : Session) (x y h : List Call) (q : Desk) → deskFrom s S h q (x ++ y) ≡ deskFrom s S (h ++ x) (deskFrom s S h q x) y
+desk-append s S [] y h q = ap (λ (l : List Call). deskFrom s S l q y) (sym (append-nil h))
+desk-append s S (c ∷ x) y h q =
+    desk-append s S x y (more h c) (choice s q c (replyIn S h c))
+    ∙ ap (λ (l : List Call). deskFrom s S l (deskFrom s S (more h c) (choice s q c (replyIn S h c)) x) y) (append-assoc h (c ∷ []) x)
+
+pub desk-more : (s : List ℕ) (S : Session) (cs : List Call) (c : Call) → deskIn s S (more cs c) ≡ choice s (deskIn s S cs) c (replyIn S cs c)
+desk-more s S cs c = desk-append s S cs (c ∷ []) [] (openingDesk s)
 
 leaves-more : (cs h : List Call) → leaves more h cs ≡ h ++ cs
 leaves-more [] h = sym (append-nil h)

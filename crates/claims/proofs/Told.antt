@@ -47,7 +47,7 @@ use Rattle.claims.specs.Words.{paperIn, papersIn}
 use Rattle.claims.specs.Device.{lentTo, keptOn, streamOf}
 use Rattle.claims.specs.Desk.{deskIn}
 use Rattle.claims.specs.Table.{firstNumber, kindOf, paperAt, queuedOn, tests, requestTests, arrivalTests, refusedBy, arrivedOn, arrivalNumber}
-use Rattle.claims.specs.Meets.{Demand1}
+use Rattle.claims.specs.Demands.{Demand1}
 use Rattle.claims.proofs.Boxes.{Box, asks, paperAfter, boxAfter, ours}
 use Rattle.claims.proofs.Checks.{sizeOf, checks, requestChecks, arrivalChecks, arrivedBy}
 use Rattle.claims.proofs.Steps.{byKind, Safe, whole-reply, kind-argument, one-not-six}

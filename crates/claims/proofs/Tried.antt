@@ -50,7 +50,7 @@ use Rattle.request_topics.specs.Request.{byServices, callAnswer, requestAnswer}
 use Rattle.claims.specs.Calls.{Kind, Call}
 use Rattle.claims.specs.Calls.Call.{request}
 use Rattle.claims.specs.Machine.{Given, more}
-use Rattle.claims.specs.Meets.{Nearest, Offered, Chosen, Fitting, Demand2}
+use Rattle.claims.specs.Demands.{Nearest, Offered, Chosen, Fitting, Demand2}
 use Rattle.claims.proofs.Boxes.{Box, asks, next, boxAfter, ours}
 use Rattle.claims.proofs.Formats.{Reached, reached, try-stays, try-pictures, try-captions, got-set}
 use Rattle.claims.proofs.Lists.{Since, since, one-more, no-trace}

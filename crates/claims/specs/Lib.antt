@@ -4,7 +4,5 @@ pub mod Table
 pub mod Desk
 pub mod Words
 pub mod Answers
-pub mod Waiting
-pub mod Meets
+pub mod Demands
 pub mod Device
-pub mod NoRoom

@@ -5,9 +5,7 @@ ghost use mathlib.Core.Bool.{true};
 ghost use mathlib.Core.List.{List};
 ghost use Prim.Native.Nat.{ℕ};
 ghost use Rattle.claims.specs.Calls.{Kind};
-ghost use Rattle.claims.specs.Meets.{Demand1, Demand2, Demand3, Counts, Answers, Meets};
-ghost use Rattle.claims.specs.Waiting.{StoppedOrIdle};
-ghost use Rattle.claims.specs.NoRoom.{NoRoom};
+ghost use Rattle.claims.specs.Demands.{Demand1, Demand2, Demand3, Counts, Answers};
 ghost use Rattle.claims.specs.Device.{machineOf, ourDevice};
 
 // Every call has an answer, by the refusal table; a refusal leaves no trace.
@@ -43,27 +41,6 @@ pub fn counts() -> bool
 // Every call that is accepted, and every plane, is answered by the sheet, the calls before and their answers.
 pub fn answers() -> bool
     ensures { λ r. ⌜ (r ≡ true) × ((s : List ℕ) (m : Kind → List ℕ) → Answers s m (machineOf ourDevice s m)) ⌝ }
-{
-    true
-}
-
-// Of each stream: a DQBUF that is answered 11 is one to be asked again soon: a run is on and there are buffers. Outside a run it gives 22.
-pub fn stopped_or_idle() -> bool
-    ensures { λ r. ⌜ (r ≡ true) × ((s : List ℕ) (m : Kind → List ℕ) (k : Kind) → StoppedOrIdle (machineOf ourDevice s m) k) ⌝ }
-{
-    true
-}
-
-// All of them together.
-pub fn our_device_meets_them() -> bool
-    ensures { λ r. ⌜ (r ≡ true) × Meets (machineOf ourDevice) ⌝ }
-{
-    true
-}
-
-// They leave no room: no other machine meets them, whatever it is made of.
-pub fn no_room() -> bool
-    ensures { λ r. ⌜ (r ≡ true) × NoRoom ⌝ }
 {
     true
 }

@@ -24,7 +24,7 @@ use Rattle.claims.specs.Calls.{Kind, Call, arrivalTime}
 use Rattle.claims.specs.Calls.Call.{request}
 use Rattle.claims.specs.Machine.{Session}
 use Rattle.claims.specs.Desk.{deskIn}
-use Rattle.claims.specs.Meets.{Demand1, Answers}
+use Rattle.claims.specs.Demands.{Demand1, Answers}
 use Rattle.bench_sheet.specs.Bench.{benchSheet}
 use Rattle.claims_shut_out.proofs.Played.{reqbufs, dark, dark-long, On, asked-both, arrives, then, asks-ten, four, at-four}
 use Rattle.claims_shut_out.proofs.Streams.{no-captions}

@@ -11,7 +11,7 @@ use Rattle.claims.specs.Calls.{Kind, Call, arrivalTime}
 use Rattle.claims.specs.Calls.Call.{request}
 use Rattle.claims.specs.Machine.{Session, more}
 use Rattle.claims.specs.Words.{openingSize, eventsIn, handedIn, paperIn}
-use Rattle.claims.specs.Meets.{Demand1}
+use Rattle.claims.specs.Demands.{Demand1}
 use Rattle.bench_sheet.specs.Bench.{benchSheet}
 use Rattle.claims_shut_out.specs.Faults.{NeverComplete, Out}
 use Rattle.claims_shut_out.proofs.Played.{tenBuffers, buffer, video, reqbufs, qbuf, streamon, dqbuf, dark, On, at-first, asked, then, tells, goes, asks-ten, gets-four}

@@ -25,7 +25,7 @@ use Rattle.claims.specs.Machine.{Session, more}
 use Rattle.claims.specs.Words.{arrivalTold, told, seenIn, eventsIn, paperIn}
 use Rattle.claims.specs.Desk.{deskIn}
 use Rattle.claims.specs.Table.{arrivalNumber}
-use Rattle.claims.specs.Meets.{Demand1, Demand3, Counts, since}
+use Rattle.claims.specs.Demands.{Demand1, Demand3, Counts, since}
 use Rattle.bench_sheet.specs.Bench.{benchSheet}
 use Rattle.claims_shut_out.specs.Faults.{IdleArrival, LaterPretend, StoredNumbered, YoungestFirst, Out}
 use Rattle.claims_shut_out.proofs.Played.{tenBuffers, buffer, video, reqbufs, qbuf, streamon, plain, plain-long, plain-first, plain-zero, dark, dark-long, On, asked, then, arrives, came, then-came, tells, tells-came, goes, four, at-four}

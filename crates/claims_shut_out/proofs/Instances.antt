@@ -28,10 +28,10 @@ use Rattle.claims.specs.Calls.Call.{request, arrival}
 use Rattle.claims.specs.Machine.{Session, Machine, Given, more, replyIn}
 use Rattle.claims.specs.Words.{told, openingSize, paperIn}
 use Rattle.claims.specs.Desk.{Desk, choice, openingDesk, deskFrom}
-use Rattle.claims.specs.Meets.{Demand1, Answers}
-use Rattle.claims.specs.Waiting.{Starts, Ends}
-use Rattle.claims.proofs.Devices.{device-meets}
-use Rattle.claims.proofs.InForce.{now-in-force}
+use Rattle.claims.specs.Demands.{Demand1, Answers}
+use Rattle.claims_together.specs.Waiting.{Starts, Ends}
+use Rattle.claims_together.proofs.Meets.{device-meets}
+use Rattle.claims_together.proofs.InForce.{now-in-force}
 use Rattle.bench_sheet.specs.Bench.{benchSheet}
 use Rattle.claims_shut_out.specs.Faults.{leftZero, AlwaysComplete, NeverComplete, LaterPretend, OddRefused, FailedCounted, StoredNumbered, YoungestFirst, SoonWhenStopped, NeverSoon, StreamsMixed, HeldUp, TwiceTaken, AllTypes, Out}
 use Rattle.claims_shut_out.specs.Wrong.{ours, raised, leftRaised, telling, place, only, refused, noneIn, echoed, oddOut, answering, storedBy, filledBy, youngest, praised, blamed, failedIn, withFailed, renumbered, flooded, ifStored, filledOnce, neverOpens, allRefusing, grantsNone, grantsFewer, alwaysRunning, alwaysBlank, alwaysGaps, alwaysComplete, stoppedComplete, neverComplete, idle, laterPretend, uncounted, tryEchoes, oddTried, oddSet, failedCounted, storedNumbered, youngestFirst, calledOff, soonWhenStopped, neverSoon, unknownInvalid, alsoWaiting, streamsMixed, busy, heldUp, twiceTaken, allTypes, oneVerdict, Wrong, WrongDevices}

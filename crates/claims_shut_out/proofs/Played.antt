@@ -22,7 +22,7 @@ use Rattle.claims.specs.Machine.{Session, more}
 use Rattle.claims.specs.Words.{toldBy, arrivalTold, told, seenIn, openingSize, eventsIn, paperIn, papersIn}
 use Rattle.claims.specs.Desk.{deskIn}
 use Rattle.claims.specs.Table.{firstNumber, requestTests, arrivalTests, refusedBy, arrivedOn, arrivalNumber}
-use Rattle.claims.specs.Meets.{Demand1}
+use Rattle.claims.specs.Demands.{Demand1}
 use Rattle.claims.proofs.Sessions.{paper-more, events-cons, told-request, told-arrival, none-refuses, arrived-number}
 use Rattle.bench_sheet.specs.Bench.{benchSheet}
 use Rattle.bench_sheet.proofs.Good.{bench-good}

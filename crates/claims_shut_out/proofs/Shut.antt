@@ -26,7 +26,7 @@ use Rattle.claims.specs.Calls.Call.{request}
 use Rattle.claims.specs.Machine.{Session, Given}
 use Rattle.claims.specs.Words.{paperIn}
 use Rattle.claims.specs.Desk.{Desk, openingDesk, chosen, deskIn}
-use Rattle.claims.specs.Meets.{Demand1, Answers, Counts}
+use Rattle.claims.specs.Demands.{Demand1, Answers, Counts}
 use Rattle.bench_sheet.specs.Bench.{benchSheet}
 use Rattle.claims_shut_out.specs.Faults.{NeverOpens, AllRefusing, GrantsNone, GrantsFewer, ConstantVerdict, AlwaysComplete, InventedTotals, TryEchoes, OddRefused, LeftRaised, FailedCounted, Out}
 use Rattle.claims_shut_out.proofs.Played.{tenBuffers, buffer, video, wide, reqbufs, streamon, dark, opens, at-first, asked, then, asks-ten, gets-four, four, at-four}

@@ -8,8 +8,8 @@ use Rattle.ioctl_table.specs.Table.{requestOf, callOf, knownWords}
 use Rattle.stream_history.specs.Paper.{blank, step}
 use Rattle.stream_history.specs.Paper.Event.{begun}
 use Rattle.claims.specs.Machine.{Session}
-use Rattle.claims.specs.Meets.{Demand1}
-use Rattle.claims.proofs.Waiting.{is-on, is-off}
+use Rattle.claims.specs.Demands.{Demand1}
+use Rattle.claims_together.proofs.Waiting.{is-on, is-off}
 use Rattle.bench_sheet.specs.Bench.{benchSheet}
 use Rattle.claims_shut_out.specs.Faults.{SoonWhenStopped, NeverSoon, UnknownInvalid, Out}
 use Rattle.claims_shut_out.proofs.Played.{buffer, reqbufs, streamon, dark, asked, at-first, four}

@@ -25,7 +25,7 @@ use Rattle.claims.specs.Machine.{Session, more}
 use Rattle.claims.specs.Words.{paperIn, papersIn}
 use Rattle.claims.specs.Desk.{deskIn}
 use Rattle.claims.specs.Table.{Check, kindOf, firstNumber, requestTests, arrivalTests, refusedBy, placedOn, arrivedOn, arrivalNumber}
-use Rattle.claims.specs.Meets.{Demand1}
+use Rattle.claims.specs.Demands.{Demand1}
 use Rattle.claims.proofs.Sessions.{paper-more}
 use Rattle.bench_sheet.specs.Bench.{benchSheet}
 use Rattle.claims_shut_out.specs.Faults.{StreamsMixed, HeldUp, TwiceTaken, AllTypes, OneVerdict, Out}

@@ -24,8 +24,8 @@ use Rattle.claims.specs.Calls.Call.{request, arrival}
 use Rattle.claims.specs.Machine.{Machine, more}
 use Rattle.claims.specs.Words.{paperIn}
 use Rattle.claims.specs.Table.{arrivalNumber}
-use Rattle.claims.specs.Waiting.{Starts, Ends, InForce}
-use Rattle.claims.specs.Meets.{Meets}
+use Rattle.claims_together.specs.Waiting.{Starts, Ends, InForce}
+use Rattle.claims_together.specs.Meets.{Meets}
 
 -- the argument of S_CROP with left 0 for its left
 abbrev pub leftZero : List ℕ → List ℕ

@@ -25,7 +25,7 @@ use Rattle.claims.specs.Calls.{Kind, typeOf, Call}
 use Rattle.claims.specs.Calls.Call.{request, arrival}
 use Rattle.claims.specs.Machine.{Session, Machine, Given, more}
 use Rattle.claims.specs.Words.{paperIn}
-use Rattle.claims.specs.Meets.{Meets}
+use Rattle.claims_together.specs.Meets.{Meets}
 use Rattle.claims.specs.Device.{machineOf, ourDevice}
 use Rattle.claims_shut_out.specs.Faults.{leftZero, NeverOpens, AllRefusing, GrantsNone, GrantsFewer, ConstantVerdict, AlwaysComplete, NeverComplete, IdleArrival, LaterPretend, InventedTotals, TryEchoes, OddRefused, LeftRaised, FailedCounted, StoredNumbered, YoungestFirst, SoonWhenStopped, NeverSoon, UnknownInvalid, StreamsMixed, HeldUp, TwiceTaken, AllTypes, OneVerdict}
 

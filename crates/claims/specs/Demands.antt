@@ -28,11 +28,10 @@ use Rattle.stream_history.specs.Paper.Event.{whole}
 use Rattle.stream_history.specs.Claims.{_⇔_, timesIn, timesOut, AllHandedOver}
 use Rattle.claims.specs.Calls.{Kind, typeOf, Call, arrivalTime}
 use Rattle.claims.specs.Calls.Call.{request, arrival}
-use Rattle.claims.specs.Machine.{Session, Machine, more, NoTrace}
+use Rattle.claims.specs.Machine.{Session, more, NoTrace}
 use Rattle.claims.specs.Words.{told, seenIn, eventsIn, paperIn, papersIn, handedIn}
 use Rattle.claims.specs.Desk.{deskIn}
 use Rattle.claims.specs.Answers.{answerOn, planeOn}
-use Rattle.claims.specs.Waiting.{StoppedOrIdle}
 use Rattle.claims.specs.Table.{firstNumber, kindOf, paperAt, openingTests, requestTests, arrivalTests, refusedBy, arrivedOn, arrivalNumber}
 
 -- ---- demand 1: every call is answered by the table, and a refusal leaves no trace
@@ -207,14 +206,3 @@ pub record Answers (s : List ℕ) (m : Kind → List ℕ) (S : Session) : Type 0
   -- of another type than those of the streams the verdict is BLANK, and an arrival leaves what it is lent
   pub others : (cs : List Call) (t : ℕ) → t ≢ typeOf Kind.pictures → t ≢ typeOf Kind.captions → S .verdict cs t ≡ Blank
   pub untouched : (cs : List Call) (t : ℕ) (f : List ℕ) (x y : ℕ) (other : List ℕ) → t ≢ typeOf Kind.pictures → t ≢ typeOf Kind.captions → S .leaves cs t f x y other ≡ other
-
--- ---- all of them
-
-pub record Meets (M : Machine) : Type 0 where
-  pub demand-1 : (s : List ℕ) (m : Kind → List ℕ) → Demand1 s m (M s m)
-  pub demand-2 : (s : List ℕ) (m : Kind → List ℕ) → Demand2 s (M s m)
-  -- of each stream
-  pub demand-3 : (s : List ℕ) (m : Kind → List ℕ) (k : Kind) → Demand3 s m (M s m) k
-  pub counts : (s : List ℕ) (m : Kind → List ℕ) (k : Kind) → Counts s (M s m) k
-  pub answers : (s : List ℕ) (m : Kind → List ℕ) → Answers s m (M s m)
-  pub stopped-or-idle : (s : List ℕ) (m : Kind → List ℕ) (k : Kind) → StoppedOrIdle (M s m) k

@@ -4,10 +4,10 @@ use mathlib.Core.Logic.{_⊎_, inl, inr, ⊎-elim, ⊎-map}
 use Prim.Native.Nat.{ℕ}
 use mathlib.Core.List.{List, [], _∷_, _++_, append-assoc, head-eq-of-cons-eq, tail-eq-of-cons-eq, nil≢cons}
 use Rattle.ioctl_table.specs.declared.table.Call.{Call as Asked}
 use Rattle.claims.specs.Calls.{Kind, Call}
 use Rattle.claims.specs.Calls.Call.{request}
 use Rattle.claims.specs.Machine.{Session, more}
-use Rattle.claims.specs.Waiting.{Accepted, InForce}
+use Rattle.claims_together.specs.Waiting.{Accepted, InForce}
 
 -- ---- lists
 

@@ -16,35 +16,17 @@ use Rattle.stream_verdict.specs.declared.Verdict.{Verdict}
 use Rattle.stream_verdict.specs.declared.Verdict.the-variants.{Running, Blank, Gaps, Complete}
 use Rattle.stream_history.specs.Paper.{Paper, blank, step, handedOver, tells}
 use Rattle.stream_history.proofs.Meanings.{Means}
 use Rattle.claims.specs.Calls.{Kind, typeOf, Call, Reply, arrivalTime}
 use Rattle.claims.specs.Calls.Call.{request, arrival}
 use Rattle.claims.specs.Calls.Reply.{answered, taken}
 use Rattle.claims.specs.Machine.{Given, Session, more, replyIn}
 use Rattle.claims.specs.Words.{told, seenIn, openingSize, paperIn, papersIn, handedIn}
 use Rattle.claims.specs.Table.{firstNumber, requestTests, arrivalTests, refusedBy, kindOf, arrivedOn}
 use Rattle.claims.specs.Desk.{Desk, openingDesk, choice, deskFrom, deskIn}
 use Rattle.claims.specs.Answers.{answerOn, planeOn}
-use Rattle.claims.specs.Meets.{Demand1, Demand3, Counts, Answers}
-use Rattle.claims.specs.NoRoom.{NoRoom}
-use Rattle.claims.proofs.Sessions.{paper-more}
-
--- what holds at first, and with each call more, holds after every list
-pub every : (P : List Call → Type 0) → P [] → ((h : List Call) (c : Call) → P h → P (more h c)) → (cs : List Call) → P cs
-every P first on cs = go cs [] first
-  where
-    go : (cs h : List Call) → P h → P (h ++ cs)
-    go [] h p = subst P (sym (append-nil h)) p
-    go (c ∷ cs) h p = subst P (append-assoc h (c ∷ []) cs) (go cs (more h c) (on h c p))
-
--- the desk after one call more
-desk-append : (s : List ℕ) (S : Session) (x y h : List Call) (q : Desk) → deskFrom s S h q (x ++ y) ≡ deskFrom s S (h ++ x) (deskFrom s S h q x) y
-desk-append s S [] y h q = ap (λ (l : List Call). deskFrom s S l q y) (sym (append-nil h))
-desk-append s S (c ∷ x) y h q =
-    desk-append s S x y (more h c) (choice s q c (replyIn S h c))
-    ∙ ap (λ (l : List Call). deskFrom s S l (deskFrom s S (more h c) (choice s q c (replyIn S h c)) x) y) (append-assoc h (c ∷ []) x)
-
-pub desk-more : (s : List ℕ) (S : Session) (cs : List Call) (c : Call) → deskIn s S (more cs c) ≡ choice s (deskIn s S cs) c (replyIn S cs c)
-desk-more s S cs c = desk-append s S cs (c ∷ []) [] (openingDesk s)
+use Rattle.claims.specs.Demands.{Demand1, Demand3, Counts, Answers}
+use Rattle.claims_together.specs.NoRoom.{NoRoom}
+use Rattle.claims.proofs.Sessions.{paper-more, every, desk-more}
 
 -- a type is that of a stream, or of none
 by-type : (P : ℕ → Type 0) → ((k : Kind) → P (typeOf k)) → ((t : ℕ) → t ≢ typeOf Kind.pictures → t ≢ typeOf Kind.captions → P t) → (t : ℕ) → P t

@@ -1,7 +1,7 @@
 use mathlib.Core.Path.{refl}
-use Rattle.claims.proofs.Devices.{device-meets}
-use Rattle.claims.proofs.stopped_or_idle.Statement.{statement}
-use Rattle.claims.proofs.stopped_or_idle.Tie as tie
+use Rattle.claims_together.proofs.Meets.{device-meets}
+use Rattle.claims_together.proofs.stopped_or_idle.Statement.{statement}
+use Rattle.claims_together.proofs.stopped_or_idle.Tie as tie
 
 returns : tie.Need-returns
 returns c = (refl, device-meets .stopped-or-idle)

@@ -14,16 +14,16 @@ use Rattle.ioctl_table.specs.declared.refusals.Refusal.the-variants.{ArgumentLe
 use Rattle.ioctl_table.specs.declared.table.Call.{Call as Asked}
 use Rattle.ioctl_table.specs.declared.table.Call.the-variants.{Dqbuf, Streamon}
 use Rattle.stream_history.specs.Paper.{Paper}
 use Rattle.claims.specs.Calls.{Kind, typeOf, Call}
 use Rattle.claims.specs.Calls.Call.{request}
 use Rattle.claims.specs.Machine.{Session, more}
 use Rattle.claims.specs.Words.{typeAt, paperIn, papersIn}
 use Rattle.claims.specs.Table.{Check, check, kindOf, noStream, wrongMemory, paperAt, firstNumber, tests}
-use Rattle.claims.specs.Meets.{Demand1}
-use Rattle.claims.specs.Waiting.{Starts, Ends, Grants, Accepted, NoneOf, InForce, RunOn, BuffersExist, StoppedOrIdle}
-use Rattle.claims.proofs.Alike.{every}
-use Rattle.claims.proofs.InForce.{Not, put-together, now-in-force, still-in-force}
-use Rattle.claims.proofs.Switched.{Next, turns, callIn, next}
+use Rattle.claims.specs.Demands.{Demand1}
+use Rattle.claims_together.specs.Waiting.{Starts, Ends, Grants, Accepted, NoneOf, InForce, RunOn, BuffersExist, StoppedOrIdle}
+use Rattle.claims.proofs.Sessions.{every}
+use Rattle.claims_together.proofs.InForce.{Not, put-together, now-in-force, still-in-force}
+use Rattle.claims_together.proofs.Switched.{Next, turns, callIn, next}
 
 -- ---- a run stays on, or off
 

@@ -13,15 +13,15 @@ use Rattle.ioctl_table.specs.declared.table.Call.{Call as Asked}
 use Rattle.ioctl_table.specs.declared.table.Call.the-variants.{Unknown, Querycap, EnumFmt, GFmt, SFmt, TryFmt, Reqbufs, Querybuf, Qbuf, Dqbuf, Streamon, Streamoff, GCtrl, SCtrl, Queryctrl, Cropcap, GCrop, SCrop, GSlicedVbiCap}
 use Rattle.stream_history.specs.Paper.{Paper, step, refusedArrival}
 use Rattle.stream_history.specs.Paper.Event.{whole, damaged, begun, idle}
 use Rattle.claims.specs.Calls.{Kind, typeOf, Call, arrivalTime}
 use Rattle.claims.specs.Calls.Call.{request, arrival}
 use Rattle.claims.specs.Machine.{Session, more}
 use Rattle.claims.specs.Words.{typeAt, requestTold, paperIn}
 use Rattle.claims.specs.Table.{wholeOn}
 use Rattle.claims.specs.Desk.{deskIn}
-use Rattle.claims.specs.Waiting.{Starts, Ends, Grants, Accepted}
+use Rattle.claims_together.specs.Waiting.{Starts, Ends, Grants, Accepted}
 use Rattle.claims.proofs.Sessions.{paper-more}
-use Rattle.claims.proofs.InForce.{Not}
+use Rattle.claims_together.proofs.InForce.{Not}
 
 -- ---- an accepted request
 

@@ -1,0 +1,5 @@
+pub mod Alike
+pub mod InForce
+pub mod Switched
+pub mod Waiting
+pub mod Meets

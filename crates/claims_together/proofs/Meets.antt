@@ -1,0 +1,15 @@
+-- Our device meets them all.
+use Rattle.claims.specs.Device.{machineOf, ourDevice}
+use Rattle.claims.proofs.Devices.{device-1, device-2, device-3, device-counts, device-answers}
+use Rattle.claims_together.specs.Meets.{Meets}
+use Rattle.claims_together.proofs.Waiting.{stopped-or-idle}
+
+pub device-meets : Meets (machineOf ourDevice)
+device-meets = record {
+  demand-1 = device-1;
+  demand-2 = device-2;
+  demand-3 = device-3;
+  counts = device-counts;
+  answers = device-answers;
+  stopped-or-idle = λ s m k. stopped-or-idle s m k (machineOf ourDevice s m) (device-1 s m);
+}
