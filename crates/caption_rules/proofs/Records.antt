@@ -1,17 +1,20 @@
 -- The records of a frame, one after the other, and the marks of the lines seen so far. Assumes nothing.
-use mathlib.Core.Path.{_≡_, refl, sym, _∙_}
+use mathlib.Core.Path.{_≡_, refl, sym, ap, ap₂, _∙_}
 use mathlib.Core.Bool.{Bool, true, false, not, _&&_, _||_, false≢true}
 use mathlib.Core.List.{List}
-use Prim.Native.Nat.{ℕ, _+_, _<_}
+use Prim.Native.Nat.{ℕ, _+_, _*_, _-_, _≤_, _<_}
+use native.Mathlib.Omega.{arith}
 use borrow.Author.Tests.{eqb-true, eqb-false, ltb-true, not-true, not-false}
 use lib.Dec.{eqb, ltb}
-use lib.ListN.{length, getD, set, replicate, getD-replicate}
+use lib.ListN.{length, getD, take, drop, set, replicate, getD-replicate}
 use lib.Seq.{getD-set-same, getD-set-other}
+use Rattle.wire_read.specs.Words.{wordAt}
+use Rattle.wire_read.proofs.Words.{word-part}
 use Rattle.sheet_rules.specs.Folds.{anyBelow}
 use Rattle.sheet_rules.proofs.Truth.{both, all-at}
 use Rattle.sheet_rules.proofs.Folding.{all-more, any-more}
 use Rattle.service_rules.specs.Services.{has}
-use Rattle.caption_rules.specs.Caption.{isService, idAt, placeAt, negotiatedAt, seenBefore, goodRecords}
+use Rattle.caption_rules.specs.Caption.{isService, idAt, placeOf, placeAt, negotiatedAt, seenBefore, goodRecords}
 
 -- record i is negotiated, and its line new
 abbrev goodAt : List ℕ → List ℕ → ℕ → Bool
@@ -20,6 +23,21 @@ goodAt lines f i = negotiatedAt lines f i && not (seenBefore f i (placeAt f i))
 -- the marks say which lines were seen: 0 where none was
 abbrev pub Marks : List ℕ → ℕ → List ℕ → Type 0
 Marks f i seen = (k : ℕ) → k < 48 → eqb (getD seen k 0) 0 ≡ not (seenBefore f i k)
+
+-- the 64 bytes of record i
+abbrev recordAt : List ℕ → ℕ → List ℕ
+recordAt f i = take (64 * i + 64 - 64 * i) (drop (64 * i) f)
+
+-- a word read in them alone
+in-record : (f : List ℕ) (i k : ℕ) → k + 4 ≤ 64 → wordAt (recordAt f i) k ≡ wordAt f (64 * i + k)
+in-record f i k h = word-part f (64 * i) (64 * i + 64 - 64 * i) k (omega (arith, h))
+
+-- its place, and its service
+pub place-read : (f : List ℕ) (i : ℕ) {x y p : ℕ} → x ≡ wordAt (recordAt f i) 4 → y ≡ wordAt (recordAt f i) 8 → p ≡ placeOf x y → p ≡ placeAt f i
+place-read f i x y e = e ∙ ap₂ placeOf (x ∙ in-record f i 4 (omega arith)) (y ∙ in-record f i 8 (omega arith))
+
+pub service-read : (f : List ℕ) (i : ℕ) {x : ℕ} → x ≡ wordAt (recordAt f i) 0 → x ≡ idAt f i
+service-read f i x = let z : 64 * i + 0 ≡ 64 * i = omega arith in x ∙ in-record f i 0 (omega arith) ∙ ap (wordAt f) z
 
 or-true : (x : Bool) → not (x || true) ≡ false
 or-true true = refl

@@ -43,7 +43,8 @@ fn fresh(lines: &Lines, seen: &[u8; 48], p: usize, id: u32) -> bool
     carries(lines[p], id) & (seen[p] == 0)
 }
 
-// Whether every record is negotiated and no line of a field comes twice. Each record is looked at once: the lines seen so far are marked.
+// Whether every record is negotiated and no line of a field comes twice. Each record is looked at once: the lines seen so far are marked. It is read in
+// a part of its own, for speed: the compiler knows how long that is, and no word needs a test.
 fn good_records(lines: &Lines, frame: &[u8]) -> bool
     ensures { λ r. ⌜ r ≡ goodRecords (now (lines .entry)) (now (frame .entry)) (length (now (frame .entry)) / 64) ⌝ }
 {
@@ -52,11 +53,10 @@ fn good_records(lines: &Lines, frame: &[u8]) -> bool
     let mut i: usize = 0;
     while i < n {
         let at = 64 * i;
-        let p = place(
-            wire_read::word_at(frame, at + 4),
-            wire_read::word_at(frame, at + 8),
-        );
-        if !fresh(lines, &seen, p, wire_read::word_at(frame, at)) {
+        let end = at + 64;
+        let record = &frame[at..end];
+        let p = place(wire_read::word_at(record, 4), wire_read::word_at(record, 8));
+        if !fresh(lines, &seen, p, wire_read::word_at(record, 0)) {
             return false;
         }
         seen[p] = 1;

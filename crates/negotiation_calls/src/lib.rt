@@ -1,12 +1,11 @@
 // S_FMT and TRY_FMT of pictures, whose type whoever calls them has tested. Each takes an argument of the length that its word says, and
 // answers any other as far as it reaches.
 ghost use mathlib.Core.Path.{_≡_};
-ghost use lib.Seq.{sets};
-ghost use Rattle.negotiation_rules.specs.Negotiation.{negotiated, askedFormat};
+ghost use Rattle.negotiation_rules.specs.Negotiation.{negotiated};
 ghost use Rattle.device_state.specs.Setup.{setupIn};
 ghost use Rattle.device_state.specs.State.{State, withSetup};
 ghost use Rattle.device_state.specs.Answers.{answer};
-ghost use Rattle.negotiation_calls.specs.Negotiations.{toldFormat, pictureOf, sFmtOf, tryFmtOf};
+ghost use Rattle.negotiation_calls.specs.Negotiations.{pictureOf, sFmtOf, tryFmtOf};
 use device_state::SetupWords;
 use format_rules::Format;
 use ioctl_table::Refusal;
@@ -18,16 +17,15 @@ struct Picture {
     size: u32,
 }
 
-// The format that an argument asks for, as near as the sheet allows: it is told in the argument.
-fn answered(sheet: &[u8], argument: &mut [u8]) -> Picture
-    ensures { λ r. ⌜ r ≡ pictureOf (now (sheet .entry)) (negotiated (now (sheet .entry)) (askedFormat (now (argument .entry)))) ⌝ }
-    ensures { λ _. ⌜ now (argument .exit) ≡ sets (now (argument .entry)) 0 (toldFormat (now (sheet .entry)) (negotiated (now (sheet .entry)) (askedFormat (now (argument .entry))))) ⌝ }
+// A format that is asked for, as near as the sheet allows. The argument does not come in, for speed: whoever reads and stores it knows its length, and
+// so does the compiler there.
+fn pictured(sheet: &[u8], asked: Format) -> Picture
+    ensures { λ r. ⌜ r ≡ pictureOf (now (sheet .entry)) (negotiated (now (sheet .entry)) asked) ⌝ }
 {
-    let format = negotiation_rules::negotiate(sheet, negotiation_rules::asked(argument));
+    let format = negotiation_rules::negotiate(sheet, asked);
     let alignment = sheet_geometry::line_alignment(sheet);
     let line = format_rules::bytes_per_line(format, alignment);
     let size = format_rules::image_size(format, alignment);
-    negotiation_rules::put_format(argument, 1, format, line, size);
     Picture { format, line, size }
 }
 
@@ -39,8 +37,9 @@ pub fn s_fmt(sheet: &[u8], setup: &mut SetupWords, granted: u64, argument: &mut 
     if granted != 0 {
         return ioctl_table::errno(Refusal::BuffersExist);
     }
-    let p = answered(sheet, argument);
+    let p = pictured(sheet, negotiation_rules::asked(argument));
     let f = p.format;
+    negotiation_rules::put_format(argument, 1, f, p.line, p.size);
     device_setup::keep_format(setup, f, p.line, p.size);
     0
 }
@@ -49,6 +48,8 @@ pub fn s_fmt(sheet: &[u8], setup: &mut SetupWords, granted: u64, argument: &mut 
 pub fn try_fmt(sheet: &[u8], argument: &mut [u8]) -> u32
     ensures { λ r. ⌜ ((d : State) → answer r d (now (argument .exit)) ≡ tryFmtOf (now (sheet .entry)) d (now (argument .entry))) ⌝ }
 {
-    answered(sheet, argument);
+    let p = pictured(sheet, negotiation_rules::asked(argument));
+    let f = p.format;
+    negotiation_rules::put_format(argument, 1, f, p.line, p.size);
     0
 }

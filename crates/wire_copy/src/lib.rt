@@ -1,4 +1,4 @@
-// Bytes copied between lent slices, as far as both reach; and four words in a row, which are copied first.
+// Bytes copied between lent slices, as far as both reach; and four words in a row.
 ghost use mathlib.Core.Path.{_≡_};
 ghost use Prim.Native.Nat.{_+_, _≤_, min, _<_};
 ghost use lib.Dec.{leb};
@@ -76,16 +76,33 @@ pub fn put_part(dst: &mut [u8], at: usize, src: &[u8], from: usize, n: usize)
     put_bytes(dst, at, wire_read::part(src, from, n));
 }
 
-// Four words in a row, copied over zeros first: one test serves all four.
+// Four words in a row, some of which may lie past the end: a test for each.
+fn four_cut(s: &[u8], at: usize) -> [u32; 4]
+    ensures { λ r. ⌜ r ≡ fourWords (now (s .entry)) at ⌝ }
+{
+    let b = wire_read::part(s, at, 16);
+    [
+        wire_read::word_at(b, 0),
+        wire_read::word_at(b, 4),
+        wire_read::word_at(b, 8),
+        wire_read::word_at(b, 12),
+    ]
+}
+
+// Four words in a row. Two paths, for speed: where all are there they are read in a part of 16 bytes, which the compiler knows to be so long, so that
+// one test serves all four.
 pub fn four_words(s: &[u8], at: usize) -> [u32; 4]
     ensures { λ r. ⌜ r ≡ fourWords (now (s .entry)) at ⌝ }
 {
-    let mut b = [0u8; 16];
-    put_part(&mut b, 0, s, at, 16);
-    [
-        wire_read::word_at(&b, 0),
-        wire_read::word_at(&b, 4),
-        wire_read::word_at(&b, 8),
-        wire_read::word_at(&b, 12),
-    ]
+    if within(s.len(), at, 16) {
+        let end = at + 16;
+        let b = &s[at..end];
+        return [
+            wire_read::word_at(b, 0),
+            wire_read::word_at(b, 4),
+            wire_read::word_at(b, 8),
+            wire_read::word_at(b, 12),
+        ];
+    }
+    four_cut(s, at)
 }

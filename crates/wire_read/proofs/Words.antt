@@ -37,6 +37,21 @@ word-drop s n at = word-same (drop n s) s at (n + at) (λ k h. getD-drop n s (at
 pub word-take : (s : List ℕ) (n at : ℕ) → at + 4 ≤ n → wordAt (take n s) at ≡ wordAt s at
 word-take s n at f = word-same (take n s) s at at (λ k h. getD-take n s (at + k) 0 (omega arith))
 
+-- so a word of a part is the word there
+pub word-part : (s : List ℕ) (at n k : ℕ) → k + 4 ≤ n → wordAt (take n (drop at s)) k ≡ wordAt s (at + k)
+word-part s at n k h = word-take (drop at s) n k h ∙ word-drop s at k
+
+-- and so are the first four
+pub four-part : (s : List ℕ) (at n : ℕ) → 16 ≤ n → fourWords (take n (drop at s)) 0 ≡ fourWords s at
+four-part s at n h =
+    rw (
+      word-part s at n 0 (omega (arith, h)),
+      word-part s at n 4 (omega (arith, h)),
+      word-part s at n 8 (omega (arith, h)),
+      word-part s at n 12 (omega (arith, h)),
+      add-zero at,
+    )
+
 -- a word before or behind a run of stores is as it was
 pub word-before : (vs l : List ℕ) (at j : ℕ) → j + 4 ≤ at → wordAt (sets l at vs) j ≡ wordAt l j
 word-before vs l at j f = word-same (sets l at vs) l j j (λ k h. sets-before vs l at (j + k) 0 (omega arith))

@@ -1,75 +1,73 @@
--- The words of the copy are the words there. Assumes nothing.
-use native.Mathlib.Nat.{add-zero}
+-- The words of the part, or of what there is of it. Assumes nothing.
+use Prim.Native.Nat.{_+_, _-_}
+use mathlib.Core.Path.{sym, _∙_}
+use borrow.Author.Tests.{leb-true}
+use lib.ListN.{length}
 use native.Mathlib.Omega.{arith}
 use denote.Ref.{now}
-use Rattle.wire_read.proofs.Words.{word-copied}
+use Rattle.wire_read.proofs.Words.{four-part}
 use borrow.Author.Needs.{needs}
 use Rattle.wire_copy.proofs.four_words.Statement.{statement}
 use Rattle.wire_copy.proofs.four_words.Tie as tie
 
-slice-aggregate-put-part : tie.Need-slice-aggregate-put-part
-slice-aggregate-put-part c = search needs
+within-requires : tie.Need-within-requires
+within-requires c κs = search needs
 
-put-part-requires : tie.Need-put-part-requires
-put-part-requires c κs = search needs
+add-end : tie.Need-add-end
+add-end c =
+    let a = c .before .before .before .args in
+    let h = leb-true (a .at + 16) (length (now (a .s))) (sym (c .before .within .ensures) ∙ c .if1 .taken) in
+    omega (arith, h)
 
-slice-aggregate-word-at : tie.Need-slice-aggregate-word-at
-slice-aggregate-word-at c = search needs
+sub-b : tie.Need-sub-b
+sub-b c = search needs
+
+part-b-start : tie.Need-part-b-start
+part-b-start c = search needs
+
+part-b-end : tie.Need-part-b-end
+part-b-end c =
+    let a = c .before .before .before .args in
+    let h = leb-true (a .at + 16) (length (now (a .s))) (sym (c .before .within .ensures) ∙ c .if1 .taken) in
+    omega (arith, h)
 
 word-at-requires : tie.Need-word-at-requires
 word-at-requires c κs = search needs
 
-slice-aggregate-word-at-2 : tie.Need-slice-aggregate-word-at-2
-slice-aggregate-word-at-2 c = search needs
-
 word-at-requires-2 : tie.Need-word-at-requires-2
 word-at-requires-2 c κs = search needs
 
-slice-aggregate-word-at-3 : tie.Need-slice-aggregate-word-at-3
-slice-aggregate-word-at-3 c = search needs
-
 word-at-requires-3 : tie.Need-word-at-requires-3
 word-at-requires-3 c κs = search needs
-
-slice-aggregate-word-at-4 : tie.Need-slice-aggregate-word-at-4
-slice-aggregate-word-at-4 c = search needs
 
 word-at-requires-4 : tie.Need-word-at-requires-4
 word-at-requires-4 c κs = search needs
 
 returns : tie.Need-returns
 returns c =
-    let w2 = c .before .before in
-    let w1 = w2 .before .before in
-    let w0 = w1 .before .before in
-    let p = w0 .before .before .before in
-    let a = p .before .before .before .args in
-    let s = now (a .s) in
-    rw (
-      w0 .word-at .ensures,
-      w1 .word-at2 .ensures,
-      w2 .word-at3 .ensures,
-      c .word-at4 .ensures,
-      p .put-part .ensures,
-      word-copied s (a .at) 16 0 (omega arith),
-      word-copied s (a .at) 16 4 (omega arith),
-      word-copied s (a .at) 16 8 (omega arith),
-      word-copied s (a .at) 16 12 (omega arith),
-      add-zero (a .at),
-    )
+    let a = c .before .before .before .before .before .before .before .before .args in
+    rw (c .before .before .before .word-at .ensures, c .before .before .word-at2 .ensures, c .before .word-at3 .ensures, c .word-at4 .ensures)
+    (four-part (now (a .s)) (a .at) (a .at + 16 - a .at) (omega arith))
+
+four-cut-requires : tie.Need-four-cut-requires
+four-cut-requires c κs = search needs
+
+returns-2 : tie.Need-returns-2
+returns-2 c = search needs
 
 pub four-words-spec : {M : Type 1} → statement M
 four-words-spec =
     tie.close
     (tie.spec
-    slice-aggregate-put-part
-    put-part-requires
-    slice-aggregate-word-at
+    within-requires
+    add-end
+    sub-b
+    part-b-start
+    part-b-end
     word-at-requires
-    slice-aggregate-word-at-2
     word-at-requires-2
-    slice-aggregate-word-at-3
     word-at-requires-3
-    slice-aggregate-word-at-4
     word-at-requires-4
-    returns)
+    returns
+    four-cut-requires
+    returns-2)
