@@ -33,6 +33,7 @@ fn beside_rust() -> Vec<Table> {
     vec![
         Table { name: "request, 8 buffers", other: "Rust", rows: requests::all() },
         Table { name: "request, by buffers", other: "Rust", rows: requests::by_buffers() },
+        Table { name: "request, by sizes", other: "Rust", rows: requests::by_sizes() },
         Table { name: "arrival decision, 8 buffers", other: "Rust", rows: arrivals::decisions() },
         Table { name: "opening", other: "Rust", rows: opening::all() },
     ]

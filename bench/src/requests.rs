@@ -3,7 +3,7 @@
 
 use crate::called::Called;
 use crate::rounds::{Row, Side};
-use crate::setup::{self, Aligned};
+use crate::setup::{self, Aligned, Sizes};
 use std::hint::black_box;
 use tollgutter_tests::model::format::YU12;
 use tollgutter_tests::model::words::*;
@@ -44,6 +44,7 @@ struct Case {
     name: &'static str,
     word: u32,
     fields: &'static [(usize, u32)],
+    sizes: Sizes,
     /// The stream that has the buffers.
     kind: u32,
     buffers: u32,
@@ -99,7 +100,8 @@ impl Case {
 }
 
 const fn plain(name: &'static str, word: u32, fields: &'static [(usize, u32)]) -> Case {
-    Case { name, word, fields, kind: PICTURES, buffers: USUAL, before: Before::Dequeued, calls: Calls::Many }
+    let (sizes, kind, buffers) = (Sizes::Usual, PICTURES, USUAL);
+    Case { name, word, fields, sizes, kind, buffers, before: Before::Dequeued, calls: Calls::Many }
 }
 
 /// The same on the caption stream.
@@ -159,6 +161,10 @@ const BY_BUFFERS: [(Case, &str); 5] = [
     (STREAMOFF_CASE, "STREAMOFF, all filled"),
 ];
 
+/// The calls of the third table, and the sheets that they are made on.
+const NEGOTIATING: [Case; 2] = [S_FMT_CASE, TRY_FMT_CASE];
+const BY_SIZES: [(Sizes, &str); 2] = [(Sizes::One, "one size"), (Sizes::Most, "4,096 x 4,096 sizes")];
+
 /// A call, and the device that it goes to. The argument is written before the clock starts.
 struct Step {
     device: usize,
@@ -178,7 +184,7 @@ impl<R: Called> Batch<R> {
         let (count, each) = case.shape();
         let mut devices: Vec<Aligned<R>> = (0..count).map(|_| Aligned(make())).collect();
         for Aligned(device) in &mut devices {
-            setup::small(device, case.kind, case.buffers);
+            setup::small(device, case.sizes, case.kind, case.buffers);
         }
         let first: Vec<Vec<u8>> = (0..each).map(|number| case.argument(number)).collect();
         let steps = (0..count * each).map(|i| Step { device: i / each, argument: first[i % each].clone() }).collect();
@@ -235,4 +241,10 @@ pub fn all() -> Vec<Row> {
 pub fn by_buffers() -> Vec<Row> {
     let rows = BY_BUFFERS.iter().flat_map(|(case, name)| COUNTS.map(|count| (case.with(count), name, count)));
     rows.map(|(case, name, count)| case.row(format!("{name}: {count} buffers"))).collect()
+}
+
+/// The requests that look for a size, where there is one to find and where there are most.
+pub fn by_sizes() -> Vec<Row> {
+    let rows = NEGOTIATING.iter().flat_map(|case| BY_SIZES.map(|(sizes, name)| (Case { sizes, ..*case }, name)));
+    rows.map(|(case, name)| case.row(format!("{}: {name}", case.name))).collect()
 }

@@ -26,9 +26,25 @@ pub fn bench_sheet() -> Vec<u8> {
     Draft::bench().bytes()
 }
 
+/// How many sizes a sheet allows.
+#[derive(Clone, Copy)]
+pub enum Sizes {
+    /// Those of the bench, and some smaller ones.
+    Usual,
+    /// A single one.
+    One,
+    /// As many as a sheet can have: 4,096 widths and as many heights.
+    Most,
+}
+
 /// The bench sheet with smaller least sizes, so that buffers are filled fast and the cache stays as it is.
-fn small_sheet() -> Vec<u8> {
-    Draft { width: [16, 640, 16], height: [2, 480, 2], ..Draft::bench() }.bytes()
+fn small_sheet(sizes: Sizes) -> Vec<u8> {
+    let (width, height) = match sizes {
+        Sizes::Usual => ([16, 640, 16], [2, 480, 2]),
+        Sizes::One => ([16, 16, 2], [2, 2, 2]),
+        Sizes::Most => ([2, 8192, 2], [2, 8192, 2]),
+    };
+    Draft { width, height, ..Draft::bench() }.bytes()
 }
 
 /// The smallest pictures that a sheet can have.
@@ -68,8 +84,8 @@ pub fn all_lines() -> Vec<u8> {
 }
 
 /// Opens the device for small frames and grants so many buffers to the stream that `kind` names.
-pub fn small<R: Recorder>(device: &mut R, kind: u32, buffers: u32) {
-    assert_eq!(device.open(&small_sheet(), [MEMORY as u64; 2]), 0);
+pub fn small<R: Recorder>(device: &mut R, sizes: Sizes, kind: u32, buffers: u32) {
+    assert_eq!(device.open(&small_sheet(sizes), [MEMORY as u64; 2]), 0);
     done(device, S_FMT, &[(0, PICTURES), (4, 16), (8, 2), (12, YUYV)]);
     done(device, S_FMT, &[(0, CAPTIONS), (4, LOAD)]);
     grant(device, kind, buffers);

@@ -2,8 +2,9 @@
 
 use crate::judge::{Judged, JUDGED};
 use crate::model::bytes::word;
-use crate::model::words::{type_at, ALL};
+use crate::model::words::{type_at, ALL, S_FMT, TRY_FMT};
 use crate::recorder::{Arrived, CAPTIONS, PICTURES, STREAMS};
+use crate::walk::{Asked, ASKED};
 use std::fmt;
 
 /// The numbers that can be given back. 75 needs 2^32 accepted arrivals in one run, which is out of reach here.
@@ -12,6 +13,8 @@ pub const NUMBERS: [u32; 8] = [0, 11, 14, 16, 22, 25, 34, 75];
 const ANSWERS: [&str; 5] = ["refused", "ignored", "damaged", "dropped", "stored"];
 const VERDICTS: [&str; 4] = ["RUNNING", "BLANK", "GAPS", "COMPLETE"];
 const NAMES: [&str; 2] = ["pictures", "captions"];
+/// The calls that ask for sizes.
+const SIZING: [(u32, &str); 2] = [(S_FMT, "S_FMT"), (TRY_FMT, "TRY_FMT")];
 
 /// The numbers that a call can give back with type 1, or with no type in its argument, and with type 6, in the order of
 /// the table of words. Any other type is refused.
@@ -74,6 +77,8 @@ pub struct Coverage {
     planes: Row,
     /// What the caption frames of a run were like.
     judged: [u64; JUDGED.len()],
+    /// Where the sizes lay that accepted calls asked for.
+    asked: [[u64; ASKED.len()]; SIZING.len()],
     /// Numbers, answers and verdicts that no rule knows.
     strange: u64,
 }
@@ -141,6 +146,15 @@ impl Coverage {
         }
     }
 
+    /// A size that an accepted S_FMT or TRY_FMT of pictures asked for.
+    pub fn asked(&mut self, word: u32, asked: Asked) {
+        for ((call, _), counts) in SIZING.iter().zip(&mut self.asked) {
+            for ((known, _), count) in ASKED.iter().zip(counts) {
+                *count += u64::from(*call == word && *known == asked);
+            }
+        }
+    }
+
     pub fn plane(&mut self, number: u32) {
         Coverage::count(&mut self.planes, &mut self.strange, number);
     }
@@ -200,6 +214,9 @@ impl Coverage {
         }
         let judged = JUDGED.iter().map(|(_, name)| *name).zip(self.judged).collect();
         lists.push(("captions, frames of a run".into(), judged));
+        for ((_, call), counts) in SIZING.iter().zip(self.asked) {
+            lists.push((format!("{call}, sizes asked"), ASKED.iter().map(|(_, name)| *name).zip(counts).collect()));
+        }
         lists
     }
 

@@ -14,6 +14,8 @@ pub enum Fault {
     VerdictConstant,
     FailedDequeueCounted,
     TieToLargerSize,
+    GreatestOffByAStep,
+    NearestFromAbove,
     TieToLargerValue,
     LeftRaisedToZero,
     DamagedNotNumbered,
@@ -48,11 +50,13 @@ pub enum Fault {
     CaptionOrderAsked,
 }
 
-pub const FAULTS: [Fault; 36] = [
+pub const FAULTS: [Fault; 38] = [
     Fault::NewestOutgoingFirst,
     Fault::VerdictConstant,
     Fault::FailedDequeueCounted,
     Fault::TieToLargerSize,
+    Fault::GreatestOffByAStep,
+    Fault::NearestFromAbove,
     Fault::TieToLargerValue,
     Fault::LeftRaisedToZero,
     Fault::DamagedNotNumbered,
@@ -132,6 +136,14 @@ impl Faulty {
                 if inside && (wanted - sizes.least) % sizes.step * 2 == sizes.step {
                     put(argument, 4, wanted + 1);
                 }
+            }
+            (Fault::GreatestOffByAStep, S_FMT | TRY_FMT) if kind == PICTURES => {
+                let sizes = opened.sheet.width;
+                put(argument, 4, word(argument, 4).min(sizes.greatest.saturating_sub(sizes.step)));
+            }
+            (Fault::NearestFromAbove, S_FMT | TRY_FMT) if kind == PICTURES => {
+                let (wanted, sizes) = (word(argument, 8), opened.sheet.height);
+                put(argument, 8, wanted.saturating_add(sizes.step / 2));
             }
             (Fault::LeftRaisedToZero, S_CROP) => {
                 let left = signed(argument, 4).max(0);

@@ -17,6 +17,7 @@ pub mod session;
 pub mod show;
 pub mod shrink;
 pub mod trace;
+pub mod walk;
 
 #[cfg(feature = "library")]
 pub mod anything;

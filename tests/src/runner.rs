@@ -6,10 +6,11 @@ use crate::fields;
 use crate::guarded::Guarded;
 use crate::judge::{judge, Judged};
 use crate::model::bytes::word;
-use crate::model::words::{size, DQBUF, G_FMT, QUERYBUF, S_FMT};
+use crate::model::words::{size, DQBUF, G_FMT, QUERYBUF, S_FMT, TRY_FMT};
 use crate::random;
-use crate::recorder::{Recorder, BLANK, CAPTIONS, DAMAGED, IGNORED, REFUSED, RUNNING, STREAMS};
+use crate::recorder::{Recorder, BLANK, CAPTIONS, DAMAGED, IGNORED, PICTURES, REFUSED, RUNNING, STREAMS};
 use crate::session::{made_length, Arrival, Lent, Session, Step};
+use crate::walk::Grid;
 use std::fmt::Debug;
 
 /// A difference between the two devices, or a byte changed that no call may change.
@@ -41,6 +42,8 @@ pub struct Runner {
     copy: Vec<u8>,
     /// All services that were negotiated since the last opening, as an answer of S_FMT has them.
     ever: Vec<u8>,
+    /// The widths and heights of the sheet that was opened last.
+    grids: [Grid; 2],
     /// What the tested device kept before and after a call.
     before: Vec<u8>,
     after: Vec<u8>,
@@ -84,6 +87,9 @@ impl Runner {
                 coverage.opening(number);
                 self.prepare_memories(lengths.map(made_length), sheet.len() as u64);
                 self.ever = vec![0; size(S_FMT)];
+                if number == 0 {
+                    self.grids = Grid::both(sheet);
+                }
                 Ok(())
             }
             Step::Request { word, argument } => {
@@ -97,7 +103,10 @@ impl Runner {
                 if let Some((kind, stream)) = waiting {
                     coverage.dequeue(kind, stream, number);
                 }
-                Ok(())
+                match *word {
+                    S_FMT | TRY_FMT if number == 0 => self.walked(*word, argument, coverage),
+                    _ => Ok(()),
+                }
             }
             Step::Arrival(arrival) => self.arrival(place, arrival, expected, tested, coverage),
             Step::Plane { frame_length, plane } => {
@@ -106,6 +115,19 @@ impl Runner {
                 same("plane", &answer, &tested.plane(*frame_length, *plane))
             }
         }
+    }
+
+    /// An accepted S_FMT or TRY_FMT of pictures answers what a walk of all sizes gives.
+    fn walked(&self, request: u32, argument: &[u8], coverage: &mut Coverage) -> Result<(), Difference> {
+        if word(argument, 0) != PICTURES {
+            return Ok(());
+        }
+        for (at, grid) in [4, 8].into_iter().zip(self.grids) {
+            let asked = word(argument, at);
+            coverage.asked(request, grid.place(asked));
+            same("size walked to", &grid.walk(asked), &word(self.expected.argument.body(), at))?;
+        }
+        Ok(())
     }
 
     /// The sheet is only lent: it must come back as it was, and is overwritten right after.

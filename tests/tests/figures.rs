@@ -63,7 +63,7 @@ impl<R: Recorder> Bench<R> {
 }
 
 fn figures<R: Recorder>(make: impl Fn() -> R) {
-    widths(Bench::new(make()));
+    sizes(Bench::new(make()));
     packed(Bench::new(make()));
     planar(Bench::new(make()));
     crops(Bench::new(make()));
@@ -72,10 +72,35 @@ fn figures<R: Recorder>(make: impl Fn() -> R) {
     numbers(Bench::new(make()));
 }
 
-fn widths<R: Recorder>(mut bench: Bench<R>) {
-    for (wanted, given) in [(300, 304), (296, 288), (0, 160), (u32::MAX, 640)] {
-        let answer = bench.done(TRY_FMT, &[(0, 1), (4, wanted), (8, 224), (12, YUYV)]);
-        assert_eq!(word(&answer, 4), given);
+/// Sizes asked for and answered: between two, half way and one more at the first two, in the middle and at the last two, and
+/// around both ends.
+const WIDTHS: [(u32, u32); 13] = [
+    (300, 304),
+    (168, 160),
+    (169, 176),
+    (296, 288),
+    (297, 304),
+    (632, 624),
+    (633, 640),
+    (0, 160),
+    (159, 160),
+    (160, 160),
+    (640, 640),
+    (641, 640),
+    (u32::MAX, 640),
+];
+const HEIGHTS: [(u32, u32); 4] = [(121, 120), (479, 478), (0, 120), (u32::MAX, 480)];
+
+fn sizes<R: Recorder>(mut bench: Bench<R>) {
+    for request in [TRY_FMT, S_FMT] {
+        for (wanted, given) in WIDTHS {
+            let answer = bench.done(request, &[(0, 1), (4, wanted), (8, 224), (12, YUYV)]);
+            assert_eq!(word(&answer, 4), given);
+        }
+        for (wanted, given) in HEIGHTS {
+            let answer = bench.done(request, &[(0, 1), (4, 304), (8, wanted), (12, YUYV)]);
+            assert_eq!(word(&answer, 8), given);
+        }
     }
 }
 

@@ -2,16 +2,16 @@
 use Prim.Native.Nat.{ℕ}
 use mathlib.Core.List.{List, [], _∷_}
 use lib.IntN.{ℤ, pos, negℤ}
-use lib.ListN.{replicate}
+use lib.ListN.{length, replicate}
 use Rattle.wire_signed.specs.Signed.{bits, signedAt}
-use Rattle.sheet_geometry.specs.Geometry.{lineAlignment, cropBounds, cropDefault}
+use Rattle.sheet_geometry.specs.Geometry.{widthsOf, heightsOf, lineAlignment, cropBounds, cropDefault}
 use Rattle.sheet_geometry.specs.declared.Rect.{Rect}
 use Rattle.format_rules.specs.declared.Format.{Format}
 use Rattle.format_rules.specs.Code.{YUYV, YU12}
 use Rattle.format_rules.specs.Size.{bytesPerLine, imageSize}
 use Rattle.stream_slots.specs.Slot.{slotSize}
 use Rattle.stream_run.specs.Switches.{grantOf}
-use Rattle.wire_read.specs.Words.{bytesOf}
+use Rattle.wire_read.specs.Words.{wordAt, bytesOf}
 use Rattle.sheet_copy.specs.Copy.{keptOf}
 use Rattle.stream_verdict.specs.Film.{verdictNumber}
 use Rattle.device_state.specs.State.{State}
@@ -22,7 +22,7 @@ use Rattle.service_rules.specs.Services.{capabilityLines}
 use Rattle.service_rules.specs.Negotiation.{negotiatedLines, unionOf, carrying, ioSize}
 use Rattle.device_film.specs.Film.{deviceVerdict}
 use Rattle.plane_rules.specs.Planes.{planeStart}
-use Rattle.negotiation_rules.specs.Negotiation.{negotiated}
+use Rattle.grid_rules.specs.Grid.{sizesOf, walkSizes}
 use Rattle.crop_rules.specs.Crop.{clamped}
 use Rattle.control_calls.specs.Controls.{sCtrlOf}
 use Rattle.bench_sheet.specs.Bench.{benchSheet, benchMemory}
@@ -43,10 +43,6 @@ minus n = negℤ (pos n)
 
 abbrev picture : ℕ → ℕ → ℕ → Format
 picture code width height = record { width = width; height = height; code = code }
-
--- the width that is taken where this one is asked
-abbrev width : ℕ → ℤ
-width asked = pos (negotiated benchSheet (picture YUYV asked 224) .width)
 
 abbrev line : Format → ℤ
 line f = pos (bytesPerLine f (lineAlignment benchSheet))
@@ -88,6 +84,30 @@ io set = ioSize (negotiatedLines set [])
 unfoldable pub opened : State
 opened = openedOf benchSheet benchMemory captionMemory .device .state
 
+-- ---- sizes
+
+-- the word at a place of what a request for a format of this width and height answers
+abbrev answeredAt : ℕ → State → ℕ → ℕ → ℕ → ℤ
+answeredAt at d word width height = pos (wordAt (requestAnswer (keptOf benchSheet) d word (bytesOf (1 ∷ width ∷ height ∷ YUYV ∷ replicate 47 0)) .argument) at)
+
+-- the width that TRY_FMT answers where this one is asked, and the height
+abbrev triedWidth : State → ℕ → ℤ
+triedWidth d asked = answeredAt 4 d 0xC0CC5640 asked 224
+
+abbrev triedHeight : State → ℕ → ℤ
+triedHeight d asked = answeredAt 8 d 0xC0CC5640 304 asked
+
+-- those that S_FMT answers
+abbrev setWidth : State → ℕ → ℤ
+setWidth d asked = answeredAt 4 d 0xC0CC5605 asked 224
+
+abbrev setHeight : State → ℕ → ℤ
+setHeight d asked = answeredAt 8 d 0xC0CC5605 304 asked
+
+-- the width that a walk of all widths gives
+abbrev walkedWidth : ℕ → ℤ
+walkedWidth asked = pos (walkSizes (widthsOf benchSheet) asked)
+
 -- ---- controls
 
 -- what S_CTRL of a device in this state answers where the contrast is set to a value
@@ -121,11 +141,38 @@ ranEmpty d =
 -- by the state of the opened device
 unfoldable pub figuresOf : State → List Figure
 figuresOf d =
-    -- the nearest width, the smaller of two that are as near, the least and the greatest
-    width 300 gives pos 304
-    ∷ width 296 gives pos 288
-    ∷ width 0 gives pos 160
-    ∷ width 4294967295 gives pos 640
+    -- widths 160, 176, .. 640: one between two, half way and one more, at the first two, in the middle and at the last two
+    triedWidth d 300 gives pos 304
+    ∷ triedWidth d 168 gives pos 160
+    ∷ triedWidth d 169 gives pos 176
+    ∷ triedWidth d 296 gives pos 288
+    ∷ triedWidth d 297 gives pos 304
+    ∷ triedWidth d 632 gives pos 624
+    ∷ triedWidth d 633 gives pos 640
+    -- both ends: the least that can be asked for, around the least width, around the greatest, the greatest that can be asked for
+    ∷ triedWidth d 0 gives pos 160
+    ∷ triedWidth d 159 gives pos 160
+    ∷ triedWidth d 160 gives pos 160
+    ∷ triedWidth d 640 gives pos 640
+    ∷ triedWidth d 641 gives pos 640
+    ∷ triedWidth d 4294967295 gives pos 640
+    -- heights 120, 122, .. 480: the first and the last half way, and both ends
+    ∷ triedHeight d 121 gives pos 120
+    ∷ triedHeight d 479 gives pos 478
+    ∷ triedHeight d 0 gives pos 120
+    ∷ triedHeight d 4294967295 gives pos 480
+    -- the same of S_FMT
+    ∷ setWidth d 296 gives pos 288
+    ∷ setWidth d 0 gives pos 160
+    ∷ setWidth d 4294967295 gives pos 640
+    ∷ setHeight d 121 gives pos 120
+    ∷ setHeight d 4294967295 gives pos 480
+    -- a walk: how many widths and heights there are, half way, and both ends
+    ∷ pos (length (sizesOf (widthsOf benchSheet))) gives pos 31
+    ∷ pos (length (sizesOf (heightsOf benchSheet))) gives pos 181
+    ∷ walkedWidth 296 gives pos 288
+    ∷ walkedWidth 0 gives pos 160
+    ∷ walkedWidth 4294967295 gives pos 640
     -- YUYV 304x224: bytes per line, image size, slot, buffers granted of ten
     ∷ line (picture YUYV 304 224) gives pos 640
     ∷ pos (size (picture YUYV 304 224)) gives pos 143360

@@ -6,7 +6,7 @@ use Prim.Native.Nat.{ℕ}
 use lib.IntN.{pos}
 use lib.ListN.{replicate, take}
 use Rattle.wire_read.specs.Words.{wordAt, le32, bytesOf}
-use Rattle.stream_words.specs.Lists.{tab, any}
+use Rattle.wire_read.specs.Lists.{tab, any}
 use Rattle.sheet_rules.specs.Folds.{allBelow, anyBelow}
 use Rattle.service_rules.specs.Services.{has, setOf, offeredAt}
 use Rattle.service_rules.specs.Negotiation.{common, fittingAt, negotiatedLines}

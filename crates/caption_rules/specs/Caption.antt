@@ -7,7 +7,7 @@ use lib.Dec.{eqb, ltb}
 use lib.ListN.{length, getD}
 use Rattle.wire_read.specs.Words.{wordAt}
 use Rattle.stream_words.specs.declared.Time.{Time}
-use Rattle.stream_words.specs.Lists.{any}
+use Rattle.wire_read.specs.Lists.{any}
 use Rattle.sheet_rules.specs.Folds.{allBelow, anyBelow}
 use Rattle.picture_rules.specs.Picture.{inSecond}
 use Rattle.service_rules.specs.Services.{services, has}

@@ -20,7 +20,7 @@ use Rattle.sheet_rules.specs.Rules.{goodSheet}
 use Rattle.sheet_rules.proofs.Good.{fits-copy}
 use Rattle.control_place_rules.specs.Find.{present, placeOf, placeAbove, queriedPlace}
 use Rattle.stream_words.specs.declared.Time.{Time}
-use Rattle.stream_words.specs.Lists.{any}
+use Rattle.wire_read.specs.Lists.{any}
 use Rattle.stream_words.specs.Moves.{isIncoming, isOutgoing, ofBuffer}
 use Rattle.stream_run.specs.Stream.{streaming, stopped}
 use Rattle.stream_run.specs.Switches.{Step, grantOf, refuses, answers, requestBuffersOf as bufferRequest}

@@ -4,7 +4,7 @@ use Prim.Native.Nat.{ℕ, _+_, _*_, _≤_}
 use native.Mathlib.Omega.{arith}
 use mathlib.Core.List.{List}
 use lib.ListN.{length}
-use Rattle.stream_words.specs.Lists.{any}
+use Rattle.wire_read.specs.Lists.{any}
 use Rattle.stream_words.specs.Moves.{emptied, isIncoming, isOutgoing, standingOf}
 use Rattle.stream_run.specs.Stream.{freshStream}
 use Rattle.stream_status.specs.Buffer.{flagsFor}

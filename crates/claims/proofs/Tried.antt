@@ -35,7 +35,7 @@ use Rattle.negotiation_rules.specs.Negotiation.{offered, offersAmong, chosenCod
 use Rattle.negotiation_rules.specs.Answer.{pictureWords}
 use Rattle.negotiation_rules.proofs.Good.{offered-all, width-within, height-within, chosen-offered, code-kept}
 use Rattle.negotiation_rules.proofs.Reply.{reply-length, reply-word}
-use Rattle.stream_words.proofs.Tabs.{tab-get}
+use Rattle.wire_read.proofs.Tabs.{tab-get}
 use Rattle.service_rules.specs.Services.{Each, has, offers}
 use Rattle.service_rules.specs.Negotiation.{askedAt, fittingAt}
 use Rattle.service_rules.proofs.Laws.{all-that-fit, answered-at}

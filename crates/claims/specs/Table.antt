@@ -19,7 +19,7 @@ use Rattle.sheet_contents.specs.Contents.{formatCount}
 use Rattle.sheet_records.specs.Records.{controlFields}
 use Rattle.sheet_records.specs.declared.Control.{Control}
 use Rattle.control_place_rules.specs.Find.{present, placeOf, queriedPlace}
-use Rattle.stream_words.specs.Lists.{any}
+use Rattle.wire_read.specs.Lists.{any}
 use Rattle.stream_arrival.specs.Arrivals.{runLimit}
 use Rattle.picture_rules.specs.Picture.{wholePicture}
 use Rattle.caption_rules.specs.Caption.{wholeCaption}

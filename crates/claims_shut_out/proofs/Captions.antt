@@ -7,7 +7,7 @@ use lib.ListN.{replicate}
 use Rattle.wire_read.specs.Words.{wordAt, le32, bytesOf}
 use Rattle.wire_signed.specs.Signed.{signed}
 use Rattle.ioctl_table.specs.Table.{requestOf, callOf, knownWords}
-use Rattle.stream_words.specs.Lists.{tab, any}
+use Rattle.wire_read.specs.Lists.{tab, any}
 use Rattle.stream_slots.specs.Slot.{slotSize}
 use Rattle.stream_run.specs.Switches.{grantOf}
 use Rattle.stream_arrival.specs.declared.Arrival.the-variants.{Stored}

@@ -10,7 +10,7 @@ use Rattle.wire_read.specs.Words.{wordAt, le32, bytesOf}
 use Rattle.wire_signed.specs.Signed.{signed}
 use Rattle.wire_read.proofs.Stores.{sets-behind}
 use Rattle.ioctl_table.specs.Table.{requestOf, callOf, knownWords}
-use Rattle.stream_words.specs.Lists.{any}
+use Rattle.wire_read.specs.Lists.{any}
 use Rattle.stream_words.specs.Stream.{Run}
 use Rattle.stream_slots.specs.Slot.{slotSize, slotOffset}
 use Rattle.stream_arrival.specs.declared.Arrival.{Arrival}

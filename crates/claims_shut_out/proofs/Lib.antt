@@ -5,4 +5,5 @@ pub mod Film
 pub mod Complete
 pub mod Streams
 pub mod Captions
+pub mod Sizes
 pub mod Instances

@@ -16,7 +16,7 @@ use Rattle.grid_rules.specs.Grid.{sizeAt}
 use Rattle.crop_rules.specs.Crop.{minZ, maxZ, clampZ, sizeIn, clampedPlace, widthIn, leftIn, clamped}
 use Rattle.crop_replies.specs.Replies.{cropReply}
 use Rattle.crop_calls.specs.Crops.{askedCrop}
-use Rattle.stream_words.specs.Lists.{any}
+use Rattle.wire_read.specs.Lists.{any}
 use Rattle.stream_words.specs.Stream.{Run}
 use Rattle.stream_verdict.specs.declared.Verdict.the-variants.{Running, Complete}
 use Rattle.stream_history.specs.Paper.{Paper, blank, step}
@@ -27,6 +27,7 @@ use Rattle.claims.specs.Machine.{Session, Given}
 use Rattle.claims.specs.Words.{paperIn}
 use Rattle.claims.specs.Desk.{Desk, openingDesk, chosen, deskIn}
 use Rattle.claims.specs.Demands.{Demand1, Answers, Counts}
+use Rattle.claims_together.proofs.Sizes.{is-try}
 use Rattle.bench_sheet.specs.Bench.{benchSheet}
 use Rattle.claims_shut_out.specs.Faults.{NeverOpens, AllRefusing, GrantsNone, GrantsFewer, ConstantVerdict, AlwaysComplete, InventedTotals, TryEchoes, OddRefused, LeftRaised, FailedCounted, Out}
 use Rattle.claims_shut_out.proofs.Played.{tenBuffers, buffer, video, wide, reqbufs, streamon, dark, opens, at-first, asked, then, asks-ten, gets-four, four, at-four}
@@ -105,24 +106,20 @@ off-grid : (k : ℕ) (n : ℕ) → 0 < n % 16 → n ≡ sizeAt (widthsOf benchSh
 unfolding benchSheet wordAt le32 bytesOf geometryAt rangeAt widthsOf
 off-grid k n r h = omega (arith, r, h)
 
-width-asked : (n : ℕ) → n < 1000 → wordAt (wide n) 4 ≡ n
+pub width-asked : (n : ℕ) → n < 1000 → wordAt (wide n) 4 ≡ n
 unfolding wordAt le32 bytesOf
 width-asked n h = omega (arith, h)
 
-of-pictures : (n : ℕ) → wordAt (wide n) 0 ≡ 1
+pub of-pictures : (n : ℕ) → wordAt (wide n) 0 ≡ 1
 unfolding wordAt le32 bytesOf
 of-pictures n = refl
-
-is-try : requestOf 0xC0CC5640 .call ≡ TryFmt
-unfolding requestOf callOf knownWords
-is-try = refl
 
 is-set : requestOf 0xC0CC5605 .call ≡ SFmt
 unfolding requestOf callOf knownWords
 is-set = refl
 
 module _ (n : ℕ) (S : Session) (d : Demand1 benchSheet dark S) where
-  tries : S .request [] 0xC0CC5640 (wide n) .number ≡ 0
+  pub tries : S .request [] 0xC0CC5640 (wide n) .number ≡ 0
   unfolding requestOf callOf knownWords wordAt le32 bytesOf
   tries = asked S d [] (blank 614400) 0xC0CC5640 (wide n) (at-first S d) refl
 

@@ -1,5 +1,5 @@
 -- Faults that a machine can have. Each is said of any machine whatever, by what it gives back; none that has it meets the demands.
-use Prim.Native.Nat.{ℕ, suc, _+_, _-_, _/_, _%_, _<_}
+use Prim.Native.Nat.{ℕ, suc, _+_, _-_, _/_, _%_, _≤_, _<_}
 use mathlib.Core.Path.{_≡_}
 use mathlib.Core.Logic.{_≢_}
 use mathlib.Core.Bool.{true, false}
@@ -13,7 +13,7 @@ use Rattle.ioctl_table.specs.Table.{requestOf}
 use Rattle.ioctl_table.specs.declared.table.Call.{Call as Asked}
 use Rattle.ioctl_table.specs.declared.table.Call.the-variants.{Unknown, SFmt, TryFmt, Reqbufs, Qbuf, Dqbuf, GCrop, SCrop}
 use Rattle.sheet_geometry.specs.Geometry.{widthsOf}
-use Rattle.grid_rules.specs.Grid.{sizeAt}
+use Rattle.grid_rules.specs.Grid.{apart, sizeAt}
 use Rattle.stream_words.specs.Stream.{Run}
 use Rattle.stream_arrival.specs.declared.Arrival.the-variants.{Stored}
 use Rattle.caption_rules.specs.Caption.{placeAt}
@@ -25,6 +25,7 @@ use Rattle.claims.specs.Machine.{Machine, more}
 use Rattle.claims.specs.Words.{paperIn}
 use Rattle.claims.specs.Table.{arrivalNumber}
 use Rattle.claims_together.specs.Waiting.{Starts, Ends, InForce}
+use Rattle.claims_together.specs.Sizes.{Negotiates}
 use Rattle.claims_together.specs.Meets.{Meets}
 
 -- the argument of S_CROP with left 0 for its left
@@ -119,6 +120,29 @@ module _ (M : Machine) where
   abbrev pub UnknownInvalid : Type 0
   UnknownInvalid = (s : List ℕ) (m : Kind → List ℕ) (cs : List Call) (w : ℕ) (a : List ℕ) → requestOf w .call ≡ Unknown → M s m .request cs w a .number ≡ 22
 
+  -- ---- of sizes
+
+  -- a TRY_FMT or S_FMT of pictures that is accepted
+  abbrev pub Negotiated : List ℕ → (Kind → List ℕ) → List Call → ℕ → List ℕ → Type 0
+  Negotiated s m cs w a = Negotiates (requestOf w .call) × (wordAt a 0 ≡ 1) × (M s m .request cs w a .number ≡ 0)
+
+  -- some is answered with the greater of two widths that are as near
+  abbrev pub TieUp : Type 0
+  TieUp = (s : List ℕ) × (m : Kind → List ℕ) × (cs : List Call) × (w : ℕ) × (a : List ℕ) × (k : ℕ) × Negotiated s m cs w a
+      × (sizeAt (widthsOf s) k < wordAt (M s m .request cs w a .argument) 4) × (wordAt (M s m .request cs w a .argument) 4 ≤ widthsOf s .greatest)
+      × (apart (wordAt (M s m .request cs w a .argument) 4) (wordAt a 4) ≡ apart (sizeAt (widthsOf s) k) (wordAt a 4))
+
+  -- some asks for the greatest width and is answered with less
+  abbrev pub GreatestMissed : Type 0
+  GreatestMissed = (s : List ℕ) × (m : Kind → List ℕ) × (cs : List Call) × (w : ℕ) × (a : List ℕ) × Negotiated s m cs w a
+      × (wordAt a 4 ≡ widthsOf s .greatest) × (wordAt (M s m .request cs w a .argument) 4 < widthsOf s .greatest)
+
+  -- some is answered with the next width above the one asked, though one below it is nearer
+  abbrev pub FromAbove : Type 0
+  FromAbove = (s : List ℕ) × (m : Kind → List ℕ) × (cs : List Call) × (w : ℕ) × (a : List ℕ) × (k : ℕ) × Negotiated s m cs w a
+      × (sizeAt (widthsOf s) k ≤ wordAt a 4) × (wordAt a 4 ≤ wordAt (M s m .request cs w a .argument) 4) × (wordAt (M s m .request cs w a .argument) 4 ≤ widthsOf s .greatest)
+      × (apart (sizeAt (widthsOf s) k) (wordAt a 4) < apart (wordAt (M s m .request cs w a .argument) 4) (wordAt a 4))
+
   -- ---- of two streams
 
   -- some QBUF of captions puts its index among the pictures: one of pictures was accepted before it, and is not behind it
@@ -171,6 +195,9 @@ pub record ShutOut : Type 0 where
   pub soon-when-stopped : Out SoonWhenStopped
   pub never-soon : Out NeverSoon
   pub unknown-invalid : Out UnknownInvalid
+  pub tie-up : Out TieUp
+  pub greatest-missed : Out GreatestMissed
+  pub from-above : Out FromAbove
   pub streams-mixed : Out StreamsMixed
   pub held-up : Out HeldUp
   pub twice-taken : Out TwiceTaken

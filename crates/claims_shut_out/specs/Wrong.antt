@@ -1,19 +1,21 @@
 -- Wrong devices, each like ours but for one thing.
-use Prim.Native.Nat.{ℕ, zero, suc, _+_, _-_, _%_}
-use mathlib.Core.Bool.{cond, not, _&&_}
+use Prim.Native.Nat.{ℕ, zero, suc, _+_, _-_, _/_, _%_, min}
+use mathlib.Core.Bool.{cond, not, _&&_, _||_}
 use mathlib.Core.List.{List, [], _∷_, map}
 use lib.Dec.{eqb}
 use lib.ListN.{replicate, take, drop}
 use lib.Seq.{sets}
 use lib.IntN.{pos}
 use lib.Signed.{ltZ}
-use Rattle.wire_read.specs.Words.{wordAt}
+use Rattle.wire_read.specs.Words.{wordAt, bytesOf}
 use Rattle.wire_signed.specs.Signed.{signedAt}
 use Rattle.ioctl_table.specs.Table.{requestOf}
 use Rattle.ioctl_table.specs.declared.table.Call.{Call as Asked}
 use Rattle.ioctl_table.specs.declared.table.Call.the-variants.{Unknown, Querycap, EnumFmt, GFmt, SFmt, TryFmt, Reqbufs, Querybuf, Qbuf, Dqbuf, Streamon, Streamoff, GCtrl, SCtrl, Queryctrl, Cropcap, GCrop, SCrop, GSlicedVbiCap}
+use Rattle.sheet_geometry.specs.Geometry.{widthsOf}
+use Rattle.sheet_geometry.specs.declared.Range.{Range}
 use Rattle.stream_slots.specs.Slot.{slotOffset}
-use Rattle.stream_words.specs.Lists.{any}
+use Rattle.wire_read.specs.Lists.{any}
 use Rattle.stream_words.specs.Stream.{Run}
 use Rattle.stream_run.specs.Stream.{freshRun}
 use Rattle.stream_arrival.specs.declared.Arrival.{Arrival}
@@ -27,7 +29,7 @@ use Rattle.claims.specs.Machine.{Session, Machine, Given, more}
 use Rattle.claims.specs.Words.{paperIn}
 use Rattle.claims_together.specs.Meets.{Meets}
 use Rattle.claims.specs.Device.{machineOf, ourDevice}
-use Rattle.claims_shut_out.specs.Faults.{leftZero, NeverOpens, AllRefusing, GrantsNone, GrantsFewer, ConstantVerdict, AlwaysComplete, NeverComplete, IdleArrival, LaterPretend, InventedTotals, TryEchoes, OddRefused, LeftRaised, FailedCounted, StoredNumbered, YoungestFirst, SoonWhenStopped, NeverSoon, UnknownInvalid, StreamsMixed, HeldUp, TwiceTaken, AllTypes, OneVerdict}
+use Rattle.claims_shut_out.specs.Faults.{leftZero, NeverOpens, AllRefusing, GrantsNone, GrantsFewer, ConstantVerdict, AlwaysComplete, NeverComplete, IdleArrival, LaterPretend, InventedTotals, TryEchoes, OddRefused, LeftRaised, FailedCounted, StoredNumbered, YoungestFirst, SoonWhenStopped, NeverSoon, UnknownInvalid, TieUp, GreatestMissed, FromAbove, StreamsMixed, HeldUp, TwiceTaken, AllTypes, OneVerdict}
 
 -- our device
 abbrev pub ours : Machine
@@ -155,6 +157,26 @@ oddTried = answering TryFmt oddOut
 
 abbrev pub oddSet : Machine
 oddSet = answering SFmt oddOut
+
+-- TRY_FMT and S_FMT of pictures are answered as if another width had been asked for
+abbrev pub widened : (Range → ℕ → ℕ) → List ℕ → Asked → List ℕ → List ℕ
+widened g s call a =
+    cond ((eqb (place call) (place TryFmt) || eqb (place call) (place SFmt)) && eqb (wordAt a 0) 1) (sets a 4 (bytesOf (g (widthsOf s) (wordAt a 4) ∷ []))) a
+
+abbrev pub widening : (Range → ℕ → ℕ) → Machine
+widening g s m = withRequest (ours s m) (λ cs w a. ours s m .request cs w (widened g s (requestOf w .call) a))
+
+-- one more: steps are even, so that this changes only what is half way, and that goes up
+abbrev pub tieUp : Machine
+tieUp = widening (λ r n. n + 1)
+
+-- a step below the greatest is the most
+abbrev pub greatestMissed : Machine
+greatestMissed = widening (λ r n. min n (r .greatest - r .step))
+
+-- half a step more: all that is between two goes up
+abbrev pub fromAbove : Machine
+fromAbove = widening (λ r n. n + r .step / 2)
 
 -- a call as it is taken: an S_CROP of a negative left is one of left 0
 abbrev pub raised : Call → Call
@@ -378,6 +400,9 @@ pub record WrongDevices : Type 0 where
   pub soon-when-stopped : Wrong SoonWhenStopped soonWhenStopped
   pub never-soon : Wrong NeverSoon neverSoon
   pub unknown-invalid : Wrong UnknownInvalid unknownInvalid
+  pub tie-up : Wrong TieUp tieUp
+  pub greatest-missed : Wrong GreatestMissed greatestMissed
+  pub from-above : Wrong FromAbove fromAbove
   pub streams-mixed : Wrong StreamsMixed streamsMixed
   pub held-up : Wrong HeldUp heldUp
   pub twice-taken : Wrong TwiceTaken twiceTaken

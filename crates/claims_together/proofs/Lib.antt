@@ -2,4 +2,5 @@ pub mod Alike
 pub mod InForce
 pub mod Switched
 pub mod Waiting
+pub mod Sizes
 pub mod Meets

@@ -3,6 +3,7 @@ use Rattle.claims.specs.Device.{machineOf, ourDevice}
 use Rattle.claims.proofs.Devices.{device-1, device-2, device-3, device-counts, device-answers}
 use Rattle.claims_together.specs.Meets.{Meets}
 use Rattle.claims_together.proofs.Waiting.{stopped-or-idle}
+use Rattle.claims_together.proofs.Sizes.{nearest-sizes}
 
 pub device-meets : Meets (machineOf ourDevice)
 device-meets = record {
@@ -12,4 +13,5 @@ device-meets = record {
   counts = device-counts;
   answers = device-answers;
   stopped-or-idle = λ s m k. stopped-or-idle s m k (machineOf ourDevice s m) (device-1 s m);
+  nearest-sizes = λ s m. nearest-sizes s m (machineOf ourDevice s m) (device-1 s m) (device-2 s m);
 }

@@ -94,7 +94,7 @@ module _ (s : List ℕ) (S : Session) (k : Kind) where
       go h c before on (Next.grants w a q o r g) = absurd (false≢true (sym r ∙ on))
       go h c before on (Next.leaves x y r g) = still-in-force S k Starts Ends h c y (before (sym r ∙ on))
 
-  granted-by : (cs : List Call) → 0 < paperIn s S k cs .granted → BuffersExist S k cs
+  pub granted-by : (cs : List Call) → 0 < paperIn s S k cs .granted → BuffersExist S k cs
   unfolding now-in-force still-in-force
   granted-by = every (λ (cs : List Call). 0 < paperIn s S k cs .granted → BuffersExist S k cs) (λ e. absurd (omega (arith, e))) (λ h c before some. go h c before some (next s S k h c))
     where
@@ -118,7 +118,7 @@ module _ (s : List ℕ) (S : Session) (k : Kind) where
 -- ---- the numbers
 
 -- a test that would give another number does not hold
-past : (x : Bool) {n rest k : ℕ} → n ≢ k → cond x n rest ≡ k → (x ≡ false) × (rest ≡ k)
+pub past : (x : Bool) {n rest k : ℕ} → n ≢ k → cond x n rest ≡ k → (x ≡ false) × (rest ≡ k)
 past true other h = absurd (other h)
 past false other h = (refl, h)
 
@@ -127,7 +127,7 @@ same-number : (x : Bool) {n rest : ℕ} → rest ≡ n → cond x n rest ≡ n
 same-number true e = refl
 same-number false e = e
 
-not-false : (x : Bool) → not x ≡ false → x ≡ true
+pub not-false : (x : Bool) → not x ≡ false → x ≡ true
 not-false true e = refl
 not-false false e = absurd (true≢false e)
 
@@ -146,7 +146,7 @@ dequeueTests a x p =
 
 module _ (s : List ℕ) (m : Kind → List ℕ) (k : Kind) (S : Session) (d : Demand1 s m S) where
   -- a request by its call
-  by-call : (cs : List Call) (w : ℕ) (a : List ℕ) (c : Asked) → requestOf w .call ≡ c
+  pub by-call : (cs : List Call) (w : ℕ) (a : List ℕ) (c : Asked) → requestOf w .call ≡ c
       → S .request cs w a .number
       ≡ firstNumber (check (not (eqb (S .opening) 0)) Closed ∷ check (eqb (argumentSize c) 0) UnknownWord ∷ check (not (eqb (length a) (argumentSize c))) ArgumentLength ∷ tests c s (papersIn s S cs) a)
   unfolding requestOf
@@ -155,7 +155,7 @@ module _ (s : List ℕ) (m : Kind → List ℕ) (k : Kind) (S : Session) (d : De
       ∙ ap (λ (x : Asked). firstNumber (check (not (eqb (S .opening) 0)) Closed ∷ check (eqb (argumentSize x) 0) UnknownWord ∷ check (not (eqb (length a) (argumentSize x))) ArgumentLength ∷ tests x s (papersIn s S cs) a)) e
 
   -- the paper that an argument names is that of the stream
-  paper-at : (cs : List Call) (a : List ℕ) (at : ℕ) → wordAt a at ≡ typeOf k → paperAt (papersIn s S cs) a at ≡ paperIn s S k cs
+  pub paper-at : (cs : List Call) (a : List ℕ) (at : ℕ) → wordAt a at ≡ typeOf k → paperAt (papersIn s S cs) a at ≡ paperIn s S k cs
   paper-at cs a at n = ap (papersIn s S cs) (names k (wordAt a at) n .0)
 
   -- a DQBUF that names the stream, by its paper

@@ -1,3 +1,4 @@
 pub mod Waiting
+pub mod Sizes
 pub mod Meets
 pub mod NoRoom

@@ -5,6 +5,7 @@ use Rattle.claims.specs.Calls.{Kind}
 use Rattle.claims.specs.Machine.{Machine}
 use Rattle.claims.specs.Demands.{Demand1, Demand2, Demand3, Counts, Answers}
 use Rattle.claims_together.specs.Waiting.{StoppedOrIdle}
+use Rattle.claims_together.specs.Sizes.{NearestSizes}
 
 pub record Meets (M : Machine) : Type 0 where
   pub demand-1 : (s : List ℕ) (m : Kind → List ℕ) → Demand1 s m (M s m)
@@ -14,3 +15,4 @@ pub record Meets (M : Machine) : Type 0 where
   pub counts : (s : List ℕ) (m : Kind → List ℕ) (k : Kind) → Counts s (M s m) k
   pub answers : (s : List ℕ) (m : Kind → List ℕ) → Answers s m (M s m)
   pub stopped-or-idle : (s : List ℕ) (m : Kind → List ℕ) (k : Kind) → StoppedOrIdle (M s m) k
+  pub nearest-sizes : (s : List ℕ) (m : Kind → List ℕ) → NearestSizes s (M s m)

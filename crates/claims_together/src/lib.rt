@@ -1,5 +1,5 @@
-// What the demands of `claims` say together: what a client may read from DQBUF, that our device meets all of them, and that they leave no
-// room. As there, nothing runs: each function is named after a claim, and its contract is the claim.
+// What the demands of `claims` say together: what a client may read from DQBUF, what a walk of all sizes gives, that our device meets all
+// of them, and that they leave no room. As there, nothing runs: each function is named after a claim, and its contract is the claim.
 ghost use mathlib.Core.Path.{_≡_};
 ghost use mathlib.Core.Bool.{true};
 ghost use mathlib.Core.List.{List};
@@ -7,12 +7,20 @@ ghost use Prim.Native.Nat.{ℕ};
 ghost use Rattle.claims.specs.Calls.{Kind};
 ghost use Rattle.claims.specs.Device.{machineOf, ourDevice};
 ghost use Rattle.claims_together.specs.Waiting.{StoppedOrIdle};
+ghost use Rattle.claims_together.specs.Sizes.{NearestSizes};
 ghost use Rattle.claims_together.specs.Meets.{Meets};
 ghost use Rattle.claims_together.specs.NoRoom.{NoRoom};
 
 // Of each stream: a DQBUF that is answered 11 is one to be asked again soon: a run is on and there are buffers. Outside a run it gives 22.
 pub fn stopped_or_idle() -> bool
     ensures { λ r. ⌜ (r ≡ true) × ((s : List ℕ) (m : Kind → List ℕ) (k : Kind) → StoppedOrIdle (machineOf ourDevice s m) k) ⌝ }
+{
+    true
+}
+
+// TRY_FMT and S_FMT of pictures answer the sizes that a walk of the whole grid gives: of all allowed ones the nearest, the smaller on a tie.
+pub fn nearest_sizes() -> bool
+    ensures { λ r. ⌜ (r ≡ true) × ((s : List ℕ) (m : Kind → List ℕ) → NearestSizes s (machineOf ourDevice s m)) ⌝ }
 {
     true
 }

@@ -4,8 +4,8 @@ use Prim.Native.Nat.{ℕ, suc}
 use mathlib.Core.List.{List, [], _∷_}
 use lib.ListN.{length, getD, set}
 use Rattle.wire_signed.specs.Signed.{signed}
-use Rattle.stream_words.specs.Lists.{tab}
-use Rattle.stream_words.proofs.Tabs.{tab-listed}
+use Rattle.wire_read.specs.Lists.{tab}
+use Rattle.wire_read.proofs.Tabs.{tab-listed}
 use Rattle.format_rules.specs.declared.Format.{Format}
 use Rattle.sheet_geometry.specs.declared.Rect.{Rect}
 use Rattle.device_state.specs.Setup.{setupIn}

@@ -1,26 +1,22 @@
 -- A grid of naturals, least + k * step for the places k = 0, 1, .. n: the first of the places that are nearest to a number.
--- There is only one; the walk gives it, and so does the arithmetic. Assumes nothing.
-use Prim.Native.Nat.{ℕ, zero, suc, _+_, _-_, _*_, _/_, _≤_, _<_}
-use mathlib.Core.Path.{_≡_, refl, sym, _∙_}
+-- The walk gives it, and so does the arithmetic. Assumes nothing.
+use Prim.Native.Nat.{ℕ, suc, _+_, _-_, _*_, _/_, _≤_, _<_}
+use mathlib.Core.Path.{_≡_, refl, sym, ap, _∙_}
 use mathlib.Core.Logic.{⊎-elim}
-use mathlib.Core.Bool.{Bool, true, false, cond}
+use mathlib.Core.Bool.{Bool, true, false, not}
 use native.Mathlib.Omega.{arith}
-use native.Mathlib.Nat.{le-antisymm, eq-or-lt-of-le, le-suc-iff, mul-le-mul-right, min-eq-left, min-eq-right, div-add-mod', mod-lt, mul-add-div-right, div-eq-of-lt, add-zero}
-use borrow.Author.Tests.{ltb-true, ltb-false, leb-true, leb-false}
+use native.Mathlib.Nat.{eq-or-lt-of-le, mul-le-mul-right, min-eq-left, min-eq-right, div-add-mod', mod-lt, mul-add-div-right, div-eq-of-lt, add-zero}
+use borrow.Author.Tests.{ltb-true, ltb-false, leb-true, leb-false, lt-ltb, le-ltb}
 use lib.Dec.{leb, ltb}
-use Rattle.grid_rules.specs.Grid.{nearestMultiple, nearestUpTo, apart, walk}
+use Rattle.wire_read.specs.Lists.{tab, any}
+use Rattle.wire_read.proofs.Tabs.{any-none, any-found, first-found}
+use Rattle.grid_rules.specs.Grid.{nearestMultiple, nearestUpTo, apart, firstUnbeaten}
 
 -- no place up to n is less far than k, and k is the first of those that are as far
 pub record First (far : ℕ → ℕ) (n k : ℕ) : Type 0 where
   pub within : k ≤ n
   pub near : (j : ℕ) → j ≤ n → far k ≤ far j
   pub tie : (j : ℕ) → j ≤ n → far k ≡ far j → k ≤ j
-
--- there is one such place
-one-first : (far : ℕ → ℕ) (n j k : ℕ) → First far n j → First far n k → j ≡ k
-one-first far n j k a b =
-    let e : far j ≡ far k = le-antisymm (a .near k (b .within)) (b .near j (a .within)) in
-    le-antisymm (a .tie k (b .within) e) (b .tie j (a .within) (sym e))
 
 -- the distance may be told in another way
 pub first-same : (f g : ℕ → ℕ) (n k : ℕ) → ((j : ℕ) → f j ≡ g j) → First f n k → First g n k
@@ -33,37 +29,22 @@ first-same f g n k e a =
 
 -- ---- the walk
 
-module _ (far : ℕ → ℕ) where
-  -- one more place is looked at
-  further : (n k : ℕ) → First far n k → (t : Bool) → ltb (far (suc n)) (far k) ≡ t → First far (suc n) (cond t (suc n) k)
-  further n k a true e =
-      let l = ltb-true (far (suc n)) (far k) e in
-      record {
-        within = omega arith;
-        near = λ j h. ⊎-elim (λ i. omega (arith, a .near j i)) (λ q. rw q (omega arith)) (le-suc-iff .0 h);
-        tie = λ j h q. ⊎-elim (λ i. absurd (omega (arith, a .near j i))) (λ p. omega arith) (le-suc-iff .0 h);
-      }
-  further n k a false e =
-      let l = ltb-false (far (suc n)) (far k) e in
-      let w = a .within in
-      record {
-        within = omega arith;
-        near = λ j h. ⊎-elim (λ i. a .near j i) (λ q. rw q l) (le-suc-iff .0 h);
-        tie = λ j h q. ⊎-elim (λ i. a .tie j i q) (λ p. omega arith) (le-suc-iff .0 h);
-      }
+-- of the places up to n the walk of their list stops at the first of the nearest: those before it are beaten by it, and it is by none
+pub walked : {A : Type 0} (far : A → ℕ) (z : A) (f : ℕ → A) (n k : ℕ) → First (λ j. far (f j)) n k → firstUnbeaten far z (tab f (suc n)) ≡ f k
+unfolding firstUnbeaten
+walked {A = A} far z f n k a =
+    first-found (λ x. not (any (beats x) (tab f (suc n)))) z f (suc n) k (omega (arith, a .within))
+    (λ j h. ap not (any-found (beats (f j)) f (suc n) k (omega (arith, a .within)) (lt-ltb (far (f k)) (far (f j)) (nearer j h))))
+    (ap not (any-none (beats (f k)) f (suc n) (λ j h. le-ltb (far (f j)) (far (f k)) (a .near j (omega arith)))))
+  where
+    beats : A → A → Bool
+    beats x y = ltb (far y) (far x)
 
-  walk-first : (n : ℕ) → First far n (walk far n)
-  unfolding walk
-  walk-first zero =
-      record {
-        within = omega arith;
-        near = λ j h. let z : j ≡ 0 = omega arith in rw z (omega arith);
-        tie = λ j h q. omega arith;
-      }
-  walk-first (suc n) = further n (walk far n) (walk-first n) (ltb (far (suc n)) (far (walk far n))) refl
-
-pub walked : {far : ℕ → ℕ} {n k : ℕ} → First far n k → walk far n ≡ k
-walked {far} {n} {k} a = one-first far n (walk far n) k (walk-first far n) a
+    -- a place before it is farther
+    nearer : (j : ℕ) → j < k → far (f k) < far (f j)
+    nearer j h =
+        let w : j ≤ n = omega (arith, a .within) in
+        ⊎-elim (λ e. absurd (omega (arith, h, a .tie j w e))) (λ l. l) (eq-or-lt-of-le (a .near j w))
 
 -- ---- the arithmetic
 

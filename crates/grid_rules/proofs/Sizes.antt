@@ -1,11 +1,11 @@
 -- What the nearest size is, of every grid whose greatest size is n steps up from the least, for every size asked. Assumes nothing.
 use Prim.Native.Nat.{ℕ, _+_, _-_, _*_, _/_, _%_, _≤_, _<_}
-use mathlib.Core.Path.{_≡_, ap}
+use mathlib.Core.Path.{_≡_, sym, ap, _∙_}
 use native.Mathlib.Omega.{arith}
 use native.Mathlib.Nat.{mul-le-mul-right, mul-div-cancel, div-add-mod', mul-mod-left}
 use Rattle.sheet_geometry.specs.declared.Range.{Range}
-use Rattle.grid_rules.specs.Grid.{nearestUpTo, nearestSize, apart, sizeAt, walkSizes}
-use Rattle.grid_rules.proofs.Places.{walked, multiple-kept, Nearest, nearest}
+use Rattle.grid_rules.specs.Grid.{nearestUpTo, nearestSize, apart, sizeAt, sizesOf, walkSizes}
+use Rattle.grid_rules.proofs.Places.{First, walked, multiple-kept, Nearest, nearest}
 
 -- it is the least one or more, of every grid
 pub size-from : (r : Range) (asked : ℕ) → r .least ≤ nearestSize r asked
@@ -62,7 +62,11 @@ module _ (r : Range) (n : ℕ) (some : 0 < r .step) (whole : r .greatest ≡ r .
     pub size-tie : (k : ℕ) → k ≤ n → apart (nearestSize r asked) asked ≡ apart (sizeAt r k) asked → nearestSize r asked ≤ sizeAt r k
     size-tie k h e = rw answer (omega (arith, mul-le-mul-right (r .step) (place .first .tie k h (rw answer at e))))
 
-    -- it is what a walk of the whole grid gives
+    -- the walk of the whole grid stops at the first of the nearest
+    pub walk-stops : (k : ℕ) → First (λ j. apart (sizeAt r j) asked) n k → walkSizes r asked ≡ sizeAt r k
+    unfolding walkSizes sizesOf
+    walk-stops k first = rw (span, mul-div-cancel n some) (walked (λ x. apart x asked) (r .least) (sizeAt r) n k first)
+
+    -- so the nearest size is what it gives
     pub size-walked : nearestSize r asked ≡ walkSizes r asked
-    unfolding walkSizes
-    size-walked = rw (answer, span, mul-div-cancel n some, walked (place .first))
+    size-walked = answer ∙ sym (walk-stops (place .times) (place .first))

@@ -10,7 +10,7 @@ use lib.Signed.{leZ}
 use Rattle.wire_signed.specs.Signed.{above, distance}
 use Rattle.wire_signed.proofs.Integers.{under, gap, reach}
 use Rattle.sheet_records.specs.declared.Limits.{Limits}
-use Rattle.grid_rules.specs.Grid.{nearestMultiple, nearestUpTo, nearestValue, valueAt, walkValues}
+use Rattle.grid_rules.specs.Grid.{nearestMultiple, nearestUpTo, nearestValue, valueAt, valuesOf, walkValues}
 use Rattle.grid_rules.proofs.Places.{First, first-same, walked, multiple-kept, nearest}
 use Rattle.grid_rules.proofs.Counts.{up-order, up-from, up-gap, stride, apart-up, apart-from}
 
@@ -82,5 +82,6 @@ module _ (l : Limits) (n : ℕ) (some : leZ (pos 1) (l .step) ≡ true) (whole :
 
     -- it is what a walk of the whole grid gives
     pub value-walked : nearestValue l v ≡ walkValues l v
-    unfolding walkValues
-    value-walked = rw (placed .is, span, mul-div-cancel n (stride (l .step) some), walked (placed .first))
+    unfolding walkValues valuesOf
+    value-walked =
+        rw (placed .is, span, mul-div-cancel n (stride (l .step) some)) (sym (walked (λ x. distance x v) (l .minimum) (valueAt l) n (placed .times) (placed .first)))

@@ -1,8 +1,10 @@
 -- Sizes, and values of a control, that go up by a step: the nearest to the one asked, by arithmetic and by a walk of the grid.
-use Prim.Native.Nat.{ℕ, zero, suc, _+_, _-_, _*_, _/_, min}
-use mathlib.Core.Bool.{cond}
+use Prim.Native.Nat.{ℕ, suc, _+_, _-_, _*_, _/_, min}
+use mathlib.Core.Bool.{not}
+use mathlib.Core.List.{List}
 use lib.Dec.{ltb}
 use lib.IntN.{ℤ, pos, _+ℤ_, _-ℤ_}
+use Rattle.wire_read.specs.Lists.{tab, any, first}
 use Rattle.wire_signed.specs.Signed.{above, distance}
 use Rattle.sheet_geometry.specs.declared.Range.{Range}
 use Rattle.sheet_records.specs.declared.Limits.{Limits}
@@ -31,11 +33,9 @@ nearestValue l v = l .minimum +ℤ pos (nearestUpTo (above 0 (l .maximum -ℤ l 
 unfoldable pub apart : ℕ → ℕ → ℕ
 apart a b = (a - b) + (b - a)
 
--- the same of signed numbers
--- goes through the places 0, 1, .. n, and leaves the one it holds only for one that is less far
-unfoldable pub walk : (ℕ → ℕ) → ℕ → ℕ
-walk far zero = 0
-walk far (suc n) = cond (ltb (far (suc n)) (far (walk far n))) (suc n) (walk far n)
+-- the first of a list that no other beats: one beats another by being less far; z of an empty list
+unfoldable pub firstUnbeaten : {A : Type 0} → (A → ℕ) → A → List A → A
+firstUnbeaten far z all = first (λ x. not (any (λ y. ltb (far y) (far x)) all)) z all
 
 -- the size k steps up
 abbrev pub sizeAt : Range → ℕ → ℕ
@@ -45,10 +45,18 @@ sizeAt r k = r .least + k * r .step
 abbrev pub valueAt : Limits → ℕ → ℤ
 valueAt l k = l .minimum +ℤ pos (k * above 0 (l .step))
 
--- the nearest size, found by a walk of the whole grid
-unfoldable pub walkSizes : Range → ℕ → ℕ
-walkSizes r asked = sizeAt r (walk (λ k. apart (sizeAt r k) asked) ((r .greatest - r .least) / r .step))
+-- the whole grid of sizes: least, least + step, .. greatest
+unfoldable pub sizesOf : Range → List ℕ
+sizesOf r = tab (sizeAt r) (suc ((r .greatest - r .least) / r .step))
 
--- the nearest value, found by a walk of the whole grid
+-- the whole grid of values: minimum, minimum + step, .. maximum
+unfoldable pub valuesOf : Limits → List ℤ
+valuesOf l = tab (valueAt l) (suc (above 0 (l .maximum -ℤ l .minimum) / above 0 (l .step)))
+
+-- the size nearest to the one asked, found by a walk of the whole grid
+unfoldable pub walkSizes : Range → ℕ → ℕ
+walkSizes r asked = firstUnbeaten (λ x. apart x asked) (r .least) (sizesOf r)
+
+-- the value nearest to v, found by a walk of the whole grid
 unfoldable pub walkValues : Limits → ℤ → ℤ
-walkValues l v = valueAt l (walk (λ k. distance (valueAt l k) v) (above 0 (l .maximum -ℤ l .minimum) / above 0 (l .step)))
+walkValues l v = firstUnbeaten (λ x. distance x v) (l .minimum) (valuesOf l)

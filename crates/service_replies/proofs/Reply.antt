@@ -11,7 +11,7 @@ use lib.Seq.{sets, length-sets}
 use borrow.Author.Tests.{ne-eqb}
 use Rattle.wire_read.specs.Words.{wordAt, le32}
 use Rattle.wire_read.proofs.Words.{word-before, word-back}
-use Rattle.stream_words.proofs.Tabs.{tab-is, tab-length}
+use Rattle.wire_read.proofs.Tabs.{tab-is, tab-length}
 use Rattle.service_rules.specs.Negotiation.{negotiatedLines, fittingAt, unionOf, ioSize}
 use Rattle.service_rules.proofs.Members.{set-most}
 use Rattle.service_rules.proofs.Counts.{count-most}

@@ -4,7 +4,7 @@ use mathlib.Core.List.{List}
 use lib.ListN.{replicate}
 use lib.Seq.{sets}
 use Rattle.wire_read.specs.Words.{le32}
-use Rattle.stream_words.specs.Lists.{tab}
+use Rattle.wire_read.specs.Lists.{tab}
 use Rattle.service_rules.specs.Services.{capabilityLines}
 use Rattle.service_rules.specs.Negotiation.{negotiatedLines, unionOf, ioSize}
 use Rattle.service_replies.specs.Halves.{halfAt, le16, halvesOf}

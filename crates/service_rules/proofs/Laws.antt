@@ -8,8 +8,8 @@ use native.Mathlib.Omega.{arith}
 use lib.Dec.{eqb, leb, ltb}
 use lib.ListN.{getD, set, replicate}
 use borrow.Author.Tests.{ltb-true}
-use Rattle.stream_words.specs.Lists.{tab}
-use Rattle.stream_words.proofs.Tabs.{tab-same, tab-get}
+use Rattle.wire_read.specs.Lists.{tab}
+use Rattle.wire_read.proofs.Tabs.{tab-same, tab-get}
 use Rattle.sheet_rules.specs.Folds.{anyBelow}
 use Rattle.sheet_rules.proofs.Truth.{both, any-at, any-of}
 use Rattle.service_rules.specs.Services.{Service, Each, has, setOf, offers, offeredAt, capabilityLines}

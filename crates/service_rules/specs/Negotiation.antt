@@ -4,7 +4,7 @@ use mathlib.Core.Bool.{Bool, cond, not, _&&_}
 use mathlib.Core.List.{List}
 use lib.Dec.{eqb}
 use lib.ListN.{getD}
-use Rattle.stream_words.specs.Lists.{tab}
+use Rattle.wire_read.specs.Lists.{tab}
 use Rattle.sheet_rules.specs.Folds.{anyBelow}
 use Rattle.service_rules.specs.Services.{has, setOf, offeredAt}
 

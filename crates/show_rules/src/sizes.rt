@@ -1,21 +1,32 @@
-// A format that is negotiated, and a crop that stays as asked.
+// Formats that are negotiated, and a crop that stays as asked.
 use format_rules::Format;
 use sheet_geometry::Rect;
 
-pub(crate) fn negotiated(s: &[u8; 324], alignment: u32) {
+fn negotiate(s: &[u8; 324], alignment: u32, width: u32, height: u32) {
     let asked = Format {
-        width: 300,
-        height: 225,
+        width: width,
+        height: height,
         code: format_rules::YUYV,
     };
     let f = negotiation_rules::negotiate(s, asked);
     let numbers = [
+        width,
+        height,
         f.width,
         f.height,
         format_rules::bytes_per_line(f, alignment),
         format_rules::image_size(f, alignment),
     ];
-    show_lines::line(b"YUYV 300x225: %dx%d, line %d, size %d\n", &numbers);
+    show_lines::line(b"YUYV %dx%d: %dx%d, line %d, size %d\n", &numbers);
+}
+
+// Between two sizes, half way between two, one more than that, and both ends of what can be asked for.
+pub(crate) fn negotiated(s: &[u8; 324], alignment: u32) {
+    negotiate(s, alignment, 300, 225);
+    negotiate(s, alignment, 296, 121);
+    negotiate(s, alignment, 297, 122);
+    negotiate(s, alignment, 0, 0);
+    negotiate(s, alignment, 4294967295, 4294967295);
 }
 
 pub(crate) fn cropped(s: &[u8; 324]) {

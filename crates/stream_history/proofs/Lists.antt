@@ -8,7 +8,7 @@ use borrow.Author.Tests.{eqb-true, eqb-false, ne-eqb}
 use lib.Dec.{eqb}
 use mathlib.Core.List.{List, [], _∷_, _++_, map}
 use lib.ListN.{length}
-use Rattle.stream_words.specs.Lists.{any}
+use Rattle.wire_read.specs.Lists.{any}
 use Rattle.stream_history.specs.Claims.{times}
 
 -- ---- every element

@@ -6,7 +6,7 @@ use native.Mathlib.Omega.{arith}
 use lib.Dec.{eqb}
 use mathlib.Core.List.{List, [], _∷_, map}
 use Rattle.stream_words.specs.declared.Filled.{Filled}
-use Rattle.stream_words.specs.Lists.{any}
+use Rattle.wire_read.specs.Lists.{any}
 use Rattle.stream_words.specs.declared.Standing.the-variants.{Dequeued, Incoming, Outgoing}
 use Rattle.stream_words.specs.Moves.{ofBuffer, isIncoming, isOutgoing, standingOf}
 use Rattle.stream_status.specs.Buffer.{flagsFor}

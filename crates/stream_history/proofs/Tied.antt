@@ -15,7 +15,7 @@ use Rattle.ioctl_table.specs.declared.refusals.Refusal.the-variants.{NoSuchInde
 use Rattle.wire_read.proofs.Parts.{part-before, part-behind, part-stored}
 use Rattle.stream_words.specs.declared.Time.{Time}
 use Rattle.stream_words.specs.declared.Filled.{Filled}
-use Rattle.stream_words.specs.Lists.{any, rest}
+use Rattle.wire_read.specs.Lists.{any, rest}
 use Rattle.stream_slots.specs.Slot.{slotSize, slotOffset}
 use Rattle.stream_words.specs.Stream.{Queues, withRun, onQueues}
 use Rattle.stream_words.specs.Words.{low}

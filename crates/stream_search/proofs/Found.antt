@@ -11,10 +11,10 @@ use lib.ListN.{getD}
 use Rattle.stream_words.specs.declared.Standing.the-variants.{Dequeued, Incoming, Outgoing}
 use Rattle.stream_words.specs.Words.{low, linedIn, holdingIn, placeIn, indexIn, frameIn, queuesIn}
 use Rattle.stream_words.specs.Moves.{noFrame, ofBuffer, isIncoming, isOutgoing, entryOf, hasRoom, pushed, standingOf}
-use Rattle.stream_words.specs.Lists.{any}
+use Rattle.wire_read.specs.Lists.{any}
 use Rattle.stream_words.specs.Stream.{Queues}
 use Rattle.stream_search.specs.Found.{FoundAt, FoundIn}
-use Rattle.stream_words.proofs.Tabs.{any-none, any-found, first-found}
+use Rattle.wire_read.proofs.Tabs.{any-none, any-found, first-found}
 
 -- the index of one in the line, by its place
 index-at : (w : List ℕ) (j q : ℕ) → placeIn w j ≡ q → indexIn w j ≡ low (getD w (16 + q) 0)

@@ -8,7 +8,7 @@ use Rattle.wire_signed.specs.Signed.{bits}
 use Rattle.stream_words.specs.declared.Filled.{Filled}
 use Rattle.stream_words.specs.Stream.{Queues, withQueues}
 use Rattle.stream_words.specs.Words.{low, linedIn, holdingIn, placeIn, indexIn, frameIn, queuesIn, streamIn}
-use Rattle.stream_words.proofs.Tabs.{tab-same}
+use Rattle.wire_read.proofs.Tabs.{tab-same}
 
 -- a number of 32 bits
 pub low-small : (n : ℕ) → n < 2 ^ 32 → low n ≡ n

@@ -12,11 +12,11 @@ use Rattle.wire_signed.specs.Signed.{bits}
 use Rattle.wire_signed.proofs.Integers.{bits-back}
 use Rattle.stream_words.specs.declared.Time.{Time}
 use Rattle.stream_words.specs.declared.Filled.{Filled}
-use Rattle.stream_words.specs.Lists.{tab, rest}
+use Rattle.wire_read.specs.Lists.{tab, rest}
 use Rattle.stream_words.specs.Stream.{Queues, withQueues, onQueues}
 use Rattle.stream_words.specs.Words.{low, timeOf, linedIn, holdingIn, placeIn, indexIn, frameIn, queuesIn, streamIn}
 use Rattle.stream_words.specs.Moves.{emptied, pushed, filledBy, filledOldest, popped}
-use Rattle.stream_words.proofs.Tabs.{tab-none, tab-length, tab-same, tab-snoc, tab-cons}
+use Rattle.wire_read.proofs.Tabs.{tab-none, tab-length, tab-same, tab-snoc, tab-cons}
 use Rattle.stream_words.proofs.Kept.{index-kept, frame-kept, run-kept, queues-are, line-changed}
 
 -- how many stand in the line, by the two queues

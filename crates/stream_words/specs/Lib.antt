@@ -1,4 +1,3 @@
-pub mod Lists
 pub mod Moves
 pub mod Stream
 pub mod Words

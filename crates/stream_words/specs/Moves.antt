@@ -13,7 +13,7 @@ use Rattle.stream_words.specs.declared.Next.{Next}
 use Rattle.stream_words.specs.declared.Next.the-variants.{Nobody, Index}
 use Rattle.stream_words.specs.declared.Standing.{Standing}
 use Rattle.stream_words.specs.declared.Standing.the-variants.{Dequeued, Incoming, Outgoing}
-use Rattle.stream_words.specs.Lists.{any, first, rest}
+use Rattle.wire_read.specs.Lists.{any, first, rest}
 use Rattle.stream_words.specs.Stream.{Queues}
 
 -- an entry of zeros

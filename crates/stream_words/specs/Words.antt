@@ -8,7 +8,7 @@ use lib.ListN.{getD}
 use Rattle.wire_signed.specs.Signed.{signed}
 use Rattle.stream_words.specs.declared.Time.{Time}
 use Rattle.stream_words.specs.declared.Filled.{Filled}
-use Rattle.stream_words.specs.Lists.{tab}
+use Rattle.wire_read.specs.Lists.{tab}
 use Rattle.stream_words.specs.Stream.{Queues, Stream}
 
 -- the lower 32 bits of a word

@@ -1,4 +1,5 @@
 pub mod Lists
 pub mod Parts
 pub mod Stores
+pub mod Tabs
 pub mod Words

@@ -6,7 +6,7 @@ use Rattle.wire_signed.specs.Signed.{signed, bits, signedAt, above}
 use Rattle.sheet_contents.specs.Contents.{geometryAt, controlsAt, controlCount, controlAt}
 use Rattle.sheet_records.specs.Records.{controlId, controlKind, limitsOf, controlFlags, controlFields}
 use Rattle.sheet_geometry.specs.Geometry.{rangeAt, widthsOf, lineAlignment, rectAt, cropBounds, cropDefault}
-use Rattle.grid_rules.specs.Grid.{nearestMultiple, nearestUpTo, nearestSize, nearestValue}
+use Rattle.grid_rules.specs.Grid.{nearestMultiple, nearestUpTo, nearestSize, nearestValue, apart, firstUnbeaten, sizesOf, walkSizes}
 use Rattle.format_rules.specs.Code.{bytesPerPixel, halfChroma}
 use Rattle.format_rules.specs.Size.{roundUp, bytesPerLine, heldHeight, firstPlane, imageSize}
 use Rattle.stream_slots.specs.Slot.{slotSize}
@@ -27,7 +27,7 @@ use Rattle.run_calls.specs.Runs.{streamonOf, streamoffOf}
 use Rattle.device_opening.specs.Opening.{openedOf}
 use Rattle.request_topics.specs.Request.{requestAnswer}
 use Rattle.device_film.specs.Film.{deviceVerdict}
-use Rattle.stream_words.specs.Lists.{tab}
+use Rattle.wire_read.specs.Lists.{tab, any, first}
 use Rattle.sheet_rules.specs.Folds.{anyBelow}
 use Rattle.service_rules.specs.Services.{has, setOf, offeredAt, capabilityLines}
 use Rattle.service_rules.specs.Negotiation.{common, fittingAt, negotiatedLines, unionOf, countBelow, ioSize}
@@ -36,7 +36,9 @@ use Rattle.service_replies.specs.Services.{askedServices}
 use Rattle.service_calls.specs.Services.{sServicesOf}
 use Rattle.bench_sheet.proofs.Good.{bench-good}
 use Rattle.plane_rules.specs.Planes.{planesOf, componentOf, componentLength, planeLength, planeStart}
-use Rattle.negotiation_rules.specs.Negotiation.{negotiated}
+use Rattle.negotiation_rules.specs.Negotiation.{offered, offersAmong, chosenCode, negotiated, askedFormat}
+use Rattle.negotiation_rules.specs.Answer.{pictureWords, formatReply}
+use Rattle.negotiation_calls.specs.Negotiations.{sFmtOf, tryFmtOf}
 use Rattle.crop_rules.specs.Crop.{minZ, maxZ, clampZ, sizeIn, clampedPlace, widthIn, leftIn, clamped}
 use Rattle.control_place_rules.specs.First.{firstFrom, firstBelow}
 use Rattle.control_place_rules.specs.Find.{present, placeOf}
@@ -54,7 +56,7 @@ unfolding opened openedOf
 opened-good = rw (bench-good, opened) refl
 
 computed : map (λ f. f .got) (figuresOf (openingState (keptOf benchSheet) benchMemory captionMemory)) ≡ map (λ f. f .expected) (figuresOf (openingState (keptOf benchSheet) benchMemory captionMemory))
-unfolding figuresOf halfAt askedServices sServicesOf tab anyBelow has setOf offeredAt capabilityLines common fittingAt negotiatedLines unionOf countBelow ioSize keptOf knownWords callOf requestOf openingState openingFormat openingValues defaultValues freshStream emptied requestAnswer reqbufsOf streamonOf streamoffOf bufferRequest startOf started stopOf stopped deviceVerdict verdictOf verdictAfter formatCode formatAt formatsAt heightsOf grantOf benchSheet wordAt le32 bytesOf signed bits signedAt above geometryAt controlsAt controlCount controlAt controlId controlKind limitsOf controlFlags controlFields rangeAt widthsOf lineAlignment rectAt cropBounds cropDefault nearestMultiple nearestUpTo nearestSize nearestValue bytesPerPixel halfChroma roundUp bytesPerLine heldHeight firstPlane imageSize slotSize planesOf componentOf componentLength planeLength planeStart negotiated minZ maxZ clampZ sizeIn clampedPlace widthIn leftIn clamped firstFrom firstBelow present placeOf rangedAt settingAt settingOf sCtrlOf valueReply
+unfolding figuresOf any first apart firstUnbeaten sizesOf walkSizes offered offersAmong chosenCode askedFormat pictureWords formatReply sFmtOf tryFmtOf halfAt askedServices sServicesOf tab anyBelow has setOf offeredAt capabilityLines common fittingAt negotiatedLines unionOf countBelow ioSize keptOf knownWords callOf requestOf openingState openingFormat openingValues defaultValues freshStream emptied requestAnswer reqbufsOf streamonOf streamoffOf bufferRequest startOf started stopOf stopped deviceVerdict verdictOf verdictAfter formatCode formatAt formatsAt heightsOf grantOf benchSheet wordAt le32 bytesOf signed bits signedAt above geometryAt controlsAt controlCount controlAt controlId controlKind limitsOf controlFlags controlFields rangeAt widthsOf lineAlignment rectAt cropBounds cropDefault nearestMultiple nearestUpTo nearestSize nearestValue bytesPerPixel halfChroma roundUp bytesPerLine heldHeight firstPlane imageSize slotSize planesOf componentOf componentLength planeLength planeStart negotiated minZ maxZ clampZ sizeIn clampedPlace widthIn leftIn clamped firstFrom firstBelow present placeOf rangedAt settingAt settingOf sCtrlOf valueReply
 computed = refl
 
 returns : tie.Need-returns

@@ -1,7 +1,7 @@
 -- A service by itself, or none. Assumes nothing.
 use native.Mathlib.Nat.{div-one}
 use borrow.Author.Tests.{ne-eqb}
-use Rattle.stream_words.specs.Lists.{any}
+use Rattle.wire_read.specs.Lists.{any}
 use Rattle.service_rules.specs.Services.{has}
 use Rattle.caption_rules.proofs.carries.Statement.{statement}
 use Rattle.caption_rules.proofs.carries.Tie as tie

@@ -3,6 +3,7 @@ use Rattle.claims_shut_out.proofs.Shut.{never-opens, all-refusing, gran
 use Rattle.claims_shut_out.proofs.Film.{idle-arrival, later-pretend, stored-numbered, youngest-first}
 use Rattle.claims_shut_out.proofs.Complete.{never-complete}
 use Rattle.claims_shut_out.proofs.Stopped.{soon-when-stopped, never-soon, unknown-invalid}
+use Rattle.claims_shut_out.proofs.Sizes.{tie-up, greatest-missed, from-above}
 use Rattle.claims_shut_out.proofs.Streams.{streams-mixed, held-up, twice-taken, all-types, one-verdict}
 use Rattle.claims_shut_out.proofs.shut_out.Statement.{statement}
 use Rattle.claims_shut_out.proofs.shut_out.Tie as tie
@@ -31,6 +32,9 @@ returns c = (
     soon-when-stopped = soon-when-stopped;
     never-soon = never-soon;
     unknown-invalid = unknown-invalid;
+    tie-up = tie-up;
+    greatest-missed = greatest-missed;
+    from-above = from-above;
     streams-mixed = streams-mixed;
     held-up = held-up;
     twice-taken = twice-taken;

@@ -5,7 +5,7 @@ use native.Mathlib.Omega.{arith}
 use denote.Ref.{now}
 use lib.ListN.{length, getD, length-set}
 use borrow.Author.Needs.{needs}
-use Rattle.stream_words.proofs.Tabs.{tab-is, filled-more}
+use Rattle.wire_read.proofs.Tabs.{tab-is, filled-more}
 use Rattle.service_replies.specs.Halves.{halfAt}
 use Rattle.service_replies.proofs.asked.asked_lines.Statement.{statement}
 use Rattle.service_replies.proofs.asked.asked_lines.Tie as tie

@@ -5,7 +5,7 @@ use native.Mathlib.Omega.{arith}
 use denote.Ref.{now}
 use lib.ListN.{length, getD, length-set}
 use borrow.Author.Needs.{needs}
-use Rattle.stream_words.proofs.Tabs.{tab-get, tab-is, filled-more}
+use Rattle.wire_read.proofs.Tabs.{tab-get, tab-is, filled-more}
 use Rattle.service_rules.specs.Services.{offeredAt, capabilityLines}
 use Rattle.service_rules.specs.Negotiation.{fittingAt, negotiatedLines}
 use Rattle.service_rules.proofs.lines.negotiate.Statement.{statement}

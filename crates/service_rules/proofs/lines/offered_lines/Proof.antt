@@ -1,6 +1,6 @@
 -- The table of the services computes to these lines. Assumes nothing.
 use mathlib.Core.Path.{refl}
-use Rattle.stream_words.specs.Lists.{tab}
+use Rattle.wire_read.specs.Lists.{tab}
 use Rattle.service_rules.specs.Services.{setOf, offeredAt, capabilityLines}
 use Rattle.service_rules.proofs.lines.offered_lines.Statement.{statement}
 use Rattle.service_rules.proofs.lines.offered_lines.Tie as tie

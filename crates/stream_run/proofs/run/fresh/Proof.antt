@@ -2,7 +2,7 @@
 use Rattle.stream_run.specs.Stream.{freshStream}
 use Rattle.stream_words.specs.Words.{queuesIn, streamIn}
 use Rattle.stream_words.specs.Moves.{emptied}
-use Rattle.stream_words.specs.Lists.{tab}
+use Rattle.wire_read.specs.Lists.{tab}
 use mathlib.Core.Path.{refl}
 use borrow.Author.Needs.{needs}
 use Rattle.stream_run.proofs.run.fresh.Statement.{statement}

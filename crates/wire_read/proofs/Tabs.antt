@@ -9,7 +9,7 @@ use borrow.Author.Tests.{eqb-true, eqb-false}
 use lib.Dec.{eqb}
 use lib.ListN.{length, getD, set}
 use lib.Seq.{getD-set-same, getD-set-other}
-use Rattle.stream_words.specs.Lists.{tab, any, first}
+use Rattle.wire_read.specs.Lists.{tab, any, first}
 
 module _ {A : Type 0} where
   pub tab-none : (f : ℕ → A) → tab f 0 ≡ []
