@@ -15,6 +15,9 @@
  * asked; ENUM_FMT, CROPCAP, G_CROP and S_CROP take 1 alone, and the eighteenth word, G_SLICED_VBI_CAP (0xC0745645, 116
  * bytes, its type at 100), takes 6 alone. Any other type gives 22. QUERYCAP tells capabilities 0x04000041.
  *
+ * S_FMT and TRY_FMT of type 1 take any width and height, and answer with the nearest of those that the sheet allows, the
+ * smaller of two that are as near. It is found by arithmetic, not by a search: a client may try as many as it likes.
+ *
  * The services of caption lines, and the lines that carry them (33 in all):
  *
  *     0x0001 Teletext B    lines 7 to 22 of both fields       0x1000 Caption 525   line 21 of both fields
