@@ -67,7 +67,8 @@ use Rattle.queue_calls.specs.Queues.{enqueueReply, qbufOf, dqbufOf}
 use Rattle.run_calls.specs.Runs.{streamonOf, streamoffOf}
 use Rattle.request_topics.specs.Request.{byVideo, byCaptions, byServices, streamCall, callAnswer}
 use Rattle.device_opening.specs.Opening.{Opened, longestMemory, closedBy, openedOf}
-use Rattle.device_film.specs.Film.{Taken, taken as takes, pictureArrives, captionsArrive, takenOf, takenMemory, deviceVerdict, devicePlace}
+use Rattle.device_film.specs.Film.{Taken, taken as takes, pictureArrives, captionsArrive, takenOf, takenMemory, deviceVerdict}
+use Rattle.device_planes.specs.Planes.{devicePlace}
 use Rattle.stream_history.specs.Paper.{Paper, Event, step}
 use Rattle.stream_history.specs.Paper.Event.{put, handed}
 use Rattle.stream_history.proofs.Tied.{Tied}

@@ -15,7 +15,8 @@ use Rattle.device_state.specs.State.{State}
 use Rattle.device_state.specs.Answers.{Answer}
 use Rattle.request_topics.specs.Request.{requestAnswer}
 use Rattle.device_opening.specs.Opening.{openedOf}
-use Rattle.device_film.specs.Film.{Taken, takenOf, takenMemory, deviceVerdict, devicePlace}
+use Rattle.device_film.specs.Film.{Taken, takenOf, takenMemory, deviceVerdict}
+use Rattle.device_planes.specs.Planes.{devicePlace}
 use Rattle.stream_history.specs.Calls.{leaves}
 use Rattle.stream_history.specs.Paper.{Paper, Event, blank, noted, wholes, dequeues, Calm, handedOver, tells}
 use Rattle.stream_history.specs.Paper.Event.{whole}

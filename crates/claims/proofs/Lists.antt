@@ -10,7 +10,8 @@ use Rattle.sheet_copy.specs.Copy.{keptOf}
 use Rattle.sheet_rules.specs.Rules.{goodSheet}
 use Rattle.device_state.specs.State.{closedState}
 use Rattle.device_opening.specs.Opening.{Opened, longestMemory, closedBy, openedOf}
-use Rattle.device_film.specs.Film.{takenMemory, deviceVerdict, devicePlace}
+use Rattle.device_film.specs.Film.{takenMemory, deviceVerdict}
+use Rattle.device_planes.specs.Planes.{devicePlace}
 use Rattle.stream_history.specs.Paper.{Paper, Event, blank, step, noted}
 use Rattle.stream_history.proofs.Machine.{leaves-append, keeps-after}
 use Rattle.claims.specs.Calls.{Kind, Call, arrivalTime}

@@ -11,7 +11,8 @@ use Rattle.stream_verdict.specs.declared.Verdict.{Verdict}
 use Rattle.device_state.specs.State.{State}
 use Rattle.device_opening.specs.Opening.{Whole, openedOf}
 use Rattle.request_topics.specs.Request.{requestAnswer}
-use Rattle.device_film.specs.Film.{takenOf, takenMemory, deviceVerdict, devicePlace}
+use Rattle.device_film.specs.Film.{takenOf, takenMemory, deviceVerdict}
+use Rattle.device_planes.specs.Planes.{devicePlace}
 use Rattle.claims.specs.Calls.{Kind, typeOf, Call, arrivalTime}
 use Rattle.claims.specs.Calls.Call.{request, arrival}
 use Rattle.claims.specs.Machine.{Given, Machine}

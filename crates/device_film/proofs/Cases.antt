@@ -4,18 +4,14 @@ use mathlib.Core.List.{List}
 use mathlib.Core.Path.{_≡_, refl}
 use lib.ListN.{length}
 use borrow.Author.Tests.{eq-eqb, ne-eqb}
-use Rattle.ioctl_table.specs.Refusal.{errnoOf}
 use Rattle.ioctl_table.specs.declared.refusals.Refusal.the-variants.{Closed, WrongType}
 use Rattle.stream_words.specs.declared.Time.{Time}
-use Rattle.sheet_geometry.specs.Geometry.{lineAlignment}
-use Rattle.plane_rules.specs.declared.Place.{Place}
-use Rattle.plane_rules.specs.Planes.{planeOf}
 use Rattle.stream_arrival.specs.declared.Arrival.{Arrival}
 use Rattle.stream_arrival.specs.declared.Arrival.the-variants.{Refused}
 use Rattle.stream_arrival.specs.Arrivals.{Arrived, writtenBy}
 use Rattle.service_rules.specs.Negotiation.{ioSize}
 use Rattle.device_state.specs.State.{State, withVideo, withCaptions}
-use Rattle.device_film.specs.Film.{taken, takenOf, takenMemory, pictureArrives, captionsArrive, devicePlace}
+use Rattle.device_film.specs.Film.{taken, takenOf, takenMemory, pictureArrives, captionsArrive}
 
 -- an arrival: its answer and the state after it, and the memory that it leaves
 module _ (d : State) (kind : ℕ) (m f : List ℕ) (t : Time) where
@@ -46,13 +42,3 @@ module _ (d : State) (kind : ℕ) (m f : List ℕ) (t : Time) where
   pub arrives-other : (d .ready ≡ 0 → ⊥) → (kind ≡ 1 → ⊥) → (kind ≡ 6 → ⊥) → Arrives (Refused WrongType) d m
   unfolding takenOf takenMemory
   arrives-other h n k = rw (ne-eqb (d .ready) 0 h, ne-eqb kind 1 n, ne-eqb kind 6 k) (refl, refl)
-
--- a closed device has no planes
-pub plane-closed : (d : State) (h : d .ready ≡ 0) (s : List ℕ) (n k : ℕ) {e : ℕ} → e ≡ errnoOf Closed → record { number = e; start = 0; length = 0 } ≡ devicePlace s d n k
-unfolding devicePlace
-plane-closed d h s n k q = rw (eq-eqb (d .ready) 0 h, q)
-
--- an open one those of its format; a and p are what the code was told
-pub plane-open : (d : State) (h : d .ready ≡ 0 → ⊥) (s : List ℕ) (n k : ℕ) {a : ℕ} {p : Place} → a ≡ lineAlignment s → p ≡ planeOf (d .format) a n k → p ≡ devicePlace s d n k
-unfolding devicePlace
-plane-open d h s n k e q = rw (ne-eqb (d .ready) 0 h, q, e)

@@ -1,4 +1,4 @@
--- Frame arrivals, the verdicts, and planes. A closed device refuses the first and the last, and its films are blank.
+-- Frame arrivals, and the verdicts. A closed device refuses the first, and its films are blank.
 use Prim.Native.Nat.{ℕ}
 use mathlib.Core.Bool.{cond}
 use mathlib.Core.List.{List}
@@ -6,9 +6,6 @@ use lib.Dec.{eqb}
 use lib.ListN.{length}
 use Rattle.ioctl_table.specs.declared.refusals.Refusal.the-variants.{Closed, WrongType}
 use Rattle.stream_words.specs.declared.Time.{Time}
-use Rattle.sheet_geometry.specs.Geometry.{lineAlignment}
-use Rattle.plane_rules.specs.declared.Place.{Place}
-use Rattle.plane_rules.specs.Planes.{noPlace, planeOf, partAt}
 use Rattle.stream_arrival.specs.declared.Arrival.the-variants.{Refused}
 use Rattle.stream_arrival.specs.declared.Arrival.{Arrival}
 use Rattle.stream_arrival.specs.Arrivals.{Arrived, arrivalOf, writtenBy}
@@ -55,11 +52,3 @@ takenMemory d kind m f t = writtenBy (takenOf d kind (length m) f t .arrival) (f
 -- the verdict on the film of a type
 unfoldable pub deviceVerdict : State → ℕ → Verdict
 deviceVerdict d kind = cond (eqb (d .ready) 0) Blank (cond (eqb kind 1) (verdictOf (d .video)) (cond (eqb kind 6) (verdictOf (d .captions)) Blank))
-
--- where plane k of a frame of n bytes lies
-unfoldable pub devicePlace : List ℕ → State → ℕ → ℕ → Place
-devicePlace s d n k = cond (eqb (d .ready) 0) (noPlace Closed) (planeOf (d .format) (lineAlignment s) n k)
-
--- the part of a frame that is its plane k
-abbrev pub devicePlane : List ℕ → State → List ℕ → ℕ → List ℕ
-devicePlane s d f k = partAt (devicePlace s d (length f) k) f

@@ -16,19 +16,19 @@ pub fn control_request(call: Call, sheet: &[u8], values: &mut Values, argument: 
     match call {
         Call::GCtrl => {
             if argument.len() != 8 {
-                return ioctl_table::errno(Refusal::ArgumentLength);
+                return request_topics::WRONG_LENGTH;
             }
             control_calls::g_ctrl(sheet, values, argument)
         }
         Call::SCtrl => {
             if argument.len() != 8 {
-                return ioctl_table::errno(Refusal::ArgumentLength);
+                return request_topics::WRONG_LENGTH;
             }
             control_calls::s_ctrl(sheet, values, argument)
         }
         Call::Queryctrl => {
             if argument.len() != 68 {
-                return ioctl_table::errno(Refusal::ArgumentLength);
+                return request_topics::WRONG_LENGTH;
             }
             control_calls::queryctrl(sheet, argument)
         }

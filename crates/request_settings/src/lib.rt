@@ -29,55 +29,55 @@ pub fn setting_request(
     match call {
         Call::Querycap => {
             if argument.len() != 104 {
-                return ioctl_table::errno(Refusal::ArgumentLength);
+                return request_topics::WRONG_LENGTH;
             }
             format_calls::querycap(sheet, argument)
         }
         Call::EnumFmt => {
             if argument.len() != 64 {
-                return ioctl_table::errno(Refusal::ArgumentLength);
+                return request_topics::WRONG_LENGTH;
             }
             format_calls::enum_fmt(sheet, argument)
         }
         Call::GFmt => {
             if argument.len() != 204 {
-                return ioctl_table::errno(Refusal::ArgumentLength);
+                return request_topics::WRONG_LENGTH;
             }
             by_type::g_fmt(setup, services, argument)
         }
         Call::SFmt => {
             if argument.len() != 204 {
-                return ioctl_table::errno(Refusal::ArgumentLength);
+                return request_topics::WRONG_LENGTH;
             }
             by_type::s_fmt(sheet, setup, services, pictures, captions, argument)
         }
         Call::TryFmt => {
             if argument.len() != 204 {
-                return ioctl_table::errno(Refusal::ArgumentLength);
+                return request_topics::WRONG_LENGTH;
             }
             by_type::try_fmt(sheet, argument)
         }
         Call::Cropcap => {
             if argument.len() != 44 {
-                return ioctl_table::errno(Refusal::ArgumentLength);
+                return request_topics::WRONG_LENGTH;
             }
             crop_calls::cropcap(sheet, argument)
         }
         Call::GCrop => {
             if argument.len() != 20 {
-                return ioctl_table::errno(Refusal::ArgumentLength);
+                return request_topics::WRONG_LENGTH;
             }
             crop_calls::g_crop(setup, argument)
         }
         Call::SCrop => {
             if argument.len() != 20 {
-                return ioctl_table::errno(Refusal::ArgumentLength);
+                return request_topics::WRONG_LENGTH;
             }
             crop_calls::s_crop(sheet, setup, argument)
         }
         Call::GSlicedVbiCap => {
             if argument.len() != 116 {
-                return ioctl_table::errno(Refusal::ArgumentLength);
+                return request_topics::WRONG_LENGTH;
             }
             service_calls::g_sliced_vbi_cap(argument)
         }

@@ -37,7 +37,7 @@ pub fn stream_request(
     match call {
         Call::Reqbufs => {
             if argument.len() != 20 {
-                return ioctl_table::errno(Refusal::ArgumentLength);
+                return request_topics::WRONG_LENGTH;
             }
             by_type::by_type(
                 Call::Reqbufs,
@@ -51,7 +51,7 @@ pub fn stream_request(
         }
         Call::Querybuf => {
             if argument.len() != 68 {
-                return ioctl_table::errno(Refusal::ArgumentLength);
+                return request_topics::WRONG_LENGTH;
             }
             by_type::by_type(
                 Call::Querybuf,
@@ -65,7 +65,7 @@ pub fn stream_request(
         }
         Call::Qbuf => {
             if argument.len() != 68 {
-                return ioctl_table::errno(Refusal::ArgumentLength);
+                return request_topics::WRONG_LENGTH;
             }
             by_type::by_type(
                 Call::Qbuf,
@@ -79,7 +79,7 @@ pub fn stream_request(
         }
         Call::Dqbuf => {
             if argument.len() != 68 {
-                return ioctl_table::errno(Refusal::ArgumentLength);
+                return request_topics::WRONG_LENGTH;
             }
             by_type::by_type(
                 Call::Dqbuf,
@@ -93,7 +93,7 @@ pub fn stream_request(
         }
         Call::Streamon => {
             if argument.len() != 4 {
-                return ioctl_table::errno(Refusal::ArgumentLength);
+                return request_topics::WRONG_LENGTH;
             }
             by_type::by_type(
                 Call::Streamon,
@@ -107,7 +107,7 @@ pub fn stream_request(
         }
         Call::Streamoff => {
             if argument.len() != 4 {
-                return ioctl_table::errno(Refusal::ArgumentLength);
+                return request_topics::WRONG_LENGTH;
             }
             by_type::by_type(
                 Call::Streamoff,

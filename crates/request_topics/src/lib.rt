@@ -10,6 +10,9 @@ pub const STREAMS: u32 = 2;
 
 pub const CONTROLS: u32 = 3;
 
+// What each topic gives to an argument of another length than the call's: the number of `ArgumentLength`.
+pub const WRONG_LENGTH: u32 = 14;
+
 // The topic of a call.
 pub fn topic(call: Call) -> u32
     ensures { λ r. ⌜ r ≡ topicOf call ⌝ }

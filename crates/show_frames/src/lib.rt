@@ -81,7 +81,7 @@ fn verdict(d: Device, a: &[u8]) -> u32 {
 fn plane(d: Device, a: &mut [u8]) -> u32 {
     let sheet = d.sheet;
     let setup = d.setup;
-    let p = device_film::plane_place(
+    let p = device_planes::plane_place(
         &sheet,
         &setup,
         wire_read::word_at(a, 4) as usize,

@@ -26,7 +26,7 @@ fn placed(s: &mut Words, count: u64, n: u32, time: Time) -> Arrival
         s[DROPPED] = std::num::wrapping_add_u64(s[DROPPED], 1);
         return Arrival::Dropped;
     };
-    stream_moves::fill(s, count, n, time);
+    stream_fill::fill(s, count, n, time);
     Arrival::Stored(k, stream_words::low(count))
 }
 

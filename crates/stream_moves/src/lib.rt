@@ -2,18 +2,13 @@
 // an array behind a reference only such a loan tells.
 ghost use mathlib.Core.Path.{_≡_};
 ghost use Rattle.stream_words.specs.Stream.{onQueues};
-ghost use Rattle.stream_words.specs.Words.{low, streamIn};
-ghost use Rattle.stream_words.specs.Moves.{emptied, pushed, filledOldest, popped};
+ghost use Rattle.stream_words.specs.Words.{streamIn};
+ghost use Rattle.stream_words.specs.Moves.{emptied, pushed, popped};
 use stream_words::GRANTED;
 use stream_words::HEAD;
 use stream_words::HOLDING;
 use stream_words::INDEX;
 use stream_words::LINED;
-use stream_words::MICROSECONDS;
-use stream_words::NUMBER;
-use stream_words::SECONDS;
-use stream_words::Time;
-use stream_words::USED;
 use stream_words::Words;
 
 // So many buffers, none of them in a queue.
@@ -40,25 +35,6 @@ pub fn push(s: &mut Words, k: u32)
     s[INDEX + p] = k as u64;
     s[HOLDING] = d;
     s[LINED] = n + 1;
-}
-
-// The oldest that waits for a frame becomes the youngest that holds one.
-pub fn fill(s: &mut Words, number: u64, used: u32, time: Time)
-    ensures { λ _. ⌜ streamIn (now (s .exit)) ≡ onQueues (λ q. filledOldest q (low number) used time) (streamIn (now (s .entry))) ⌝ }
-{
-    let d = stream_words::holding(s);
-    if stream_words::lined(s) <= d {
-        return;
-    }
-    let p = stream_words::place(s, d);
-    let seconds = wire_signed::as_bits(time.seconds);
-    let microseconds = wire_signed::as_bits(time.microseconds);
-    let _words: &[u64] = s;
-    s[NUMBER + p] = number;
-    s[USED + p] = used as u64;
-    s[SECONDS + p] = seconds as u64;
-    s[MICROSECONDS + p] = microseconds as u64;
-    s[HOLDING] = d + 1;
 }
 
 // The oldest that holds a frame leaves the queues.

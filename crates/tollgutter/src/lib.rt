@@ -5,7 +5,8 @@ ghost use lib.ListN.{length};
 ghost use Rattle.stream_words.specs.Words.{timeOf};
 ghost use Rattle.arrival_replies.specs.Answer.{toldOf};
 ghost use Rattle.request_topics.specs.Request.{requestAnswer};
-ghost use Rattle.device_film.specs.Film.{takenOf, takenMemory, devicePlace};
+ghost use Rattle.device_film.specs.Film.{takenOf, takenMemory};
+ghost use Rattle.device_planes.specs.Planes.{devicePlace};
 ghost use Rattle.device_opening.specs.Opening.{openedOf, wholeOf};
 ghost use Rattle.device_numbers.specs.Told.{verdictTold};
 use arrival_replies::Told;
@@ -83,5 +84,5 @@ pub extern "C" fn tg_verdict(d: &Device, kind: u32) -> u32
 pub extern "C" fn tg_plane(d: &Device, bytes: usize, plane: u32) -> Place
     ensures { λ r. ⌜ r ≡ devicePlace (now (d .entry) .sheet) (wholeOf (now (d .entry)) .state) bytes plane ⌝ }
 {
-    device_film::plane_place(&d.sheet, &d.setup, bytes, plane)
+    device_planes::plane_place(&d.sheet, &d.setup, bytes, plane)
 }

@@ -12,14 +12,11 @@ use Rattle.request_controls.proofs.control_request.Tie as tie
 enum-told : tie.Need-enum-told
 enum-told c = search needs
 
-errno-requires : tie.Need-errno-requires
-errno-requires c κs = search needs
-
 returns : tie.Need-returns
 returns c x =
-    let a = c .before .before .before .before .before .before .args in
+    let a = c .before .before .before .before .before .args in
     let d = withValues x (now (a .values)) in
-    arm-length GCtrl (now (a .sheet)) d (now (a .argument)) (c .before .before .enum-told .given .1) refl (c .before .if1 .taken) (c .errno .ensures)
+    arm-length GCtrl (now (a .sheet)) d (now (a .argument)) (c .before .enum-told .given .1) refl (c .if1 .taken) refl
 
 g-ctrl-requires : tie.Need-g-ctrl-requires
 g-ctrl-requires c κs = search needs
@@ -27,14 +24,11 @@ g-ctrl-requires c κs = search needs
 enum-told-2 : tie.Need-enum-told-2
 enum-told-2 c = search needs
 
-errno-requires-2 : tie.Need-errno-requires-2
-errno-requires-2 c κs = search needs
-
 returns-2 : tie.Need-returns-2
 returns-2 c x =
-    let a = c .before .before .before .before .before .before .args in
+    let a = c .before .before .before .before .before .args in
     let d = withValues x (now (a .values)) in
-    arm-length SCtrl (now (a .sheet)) d (now (a .argument)) (c .before .before .enum-told2 .given .1) refl (c .before .if2 .taken) (c .errno2 .ensures)
+    arm-length SCtrl (now (a .sheet)) d (now (a .argument)) (c .before .enum-told2 .given .1) refl (c .if2 .taken) refl
 
 s-ctrl-requires : tie.Need-s-ctrl-requires
 s-ctrl-requires c κs = search needs
@@ -42,20 +36,17 @@ s-ctrl-requires c κs = search needs
 enum-told-3 : tie.Need-enum-told-3
 enum-told-3 c = search needs
 
-errno-requires-3 : tie.Need-errno-requires-3
-errno-requires-3 c κs = search needs
-
 returns-3 : tie.Need-returns-3
 returns-3 c x =
-    let a = c .before .before .before .before .before .before .args in
+    let a = c .before .before .before .before .before .args in
     let d = withValues x (now (a .values)) in
-    arm-length Queryctrl (now (a .sheet)) d (now (a .argument)) (c .before .before .enum-told3 .given .1) refl (c .before .if3 .taken) (c .errno3 .ensures)
+    arm-length Queryctrl (now (a .sheet)) d (now (a .argument)) (c .before .enum-told3 .given .1) refl (c .if3 .taken) refl
 
 queryctrl-requires : tie.Need-queryctrl-requires
 queryctrl-requires c κs = search needs
 
-errno-requires-4 : tie.Need-errno-requires-4
-errno-requires-4 c κs = search needs
+errno-requires : tie.Need-errno-requires
+errno-requires c κs = search needs
 
 same-length : tie.Need-same-length
 same-length c = search needs
@@ -88,25 +79,22 @@ returns-7 : tie.Need-returns-7
 returns-7 c x =
     let a = c .before .before .before .before .args in
     let d = withValues x (now (a .values)) in
-    topic-other 3 (a .call) (now (a .sheet)) d (now (a .argument)) (elsewhere 3 (0 ∷ 1 ∷ 2 ∷ 3 ∷ 4 ∷ 5 ∷ 6 ∷ 7 ∷ 8 ∷ 9 ∷ 10 ∷ 11 ∷ 15 ∷ 16 ∷ 17 ∷ 18 ∷ []) tt (a .call) (c .before .match .keys4)) (c .errno4 .ensures)
+    topic-other 3 (a .call) (now (a .sheet)) d (now (a .argument)) (elsewhere 3 (0 ∷ 1 ∷ 2 ∷ 3 ∷ 4 ∷ 5 ∷ 6 ∷ 7 ∷ 8 ∷ 9 ∷ 10 ∷ 11 ∷ 15 ∷ 16 ∷ 17 ∷ 18 ∷ []) tt (a .call) (c .before .match .keys4)) (c .errno .ensures)
 
 pub control-request-spec : {M : Type 1} → statement M
 control-request-spec =
     tie.close
     (tie.spec
     enum-told
-    errno-requires
     returns
     g-ctrl-requires
     enum-told-2
-    errno-requires-2
     returns-2
     s-ctrl-requires
     enum-told-3
-    errno-requires-3
     returns-3
     queryctrl-requires
-    errno-requires-4
+    errno-requires
     same-length
     returns-4
     same-length-2

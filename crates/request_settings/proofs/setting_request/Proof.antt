@@ -14,14 +14,11 @@ use Rattle.request_settings.proofs.setting_request.Tie as tie
 enum-told : tie.Need-enum-told
 enum-told c = search needs
 
-errno-requires : tie.Need-errno-requires
-errno-requires c κs = search needs
-
 returns : tie.Need-returns
 returns c x h k =
-    let a = c .before .before .before .before .before .before .args in
+    let a = c .before .before .before .before .before .args in
     let d = withSettings x (setupIn (now (a .setup))) (now (a .services)) in
-    arm-length Querycap (now (a .sheet)) d (now (a .argument)) (c .before .before .enum-told .given .1) refl (c .before .if1 .taken) (c .errno .ensures)
+    arm-length Querycap (now (a .sheet)) d (now (a .argument)) (c .before .enum-told .given .1) refl (c .if1 .taken) refl
 
 querycap-requires : tie.Need-querycap-requires
 querycap-requires c κs = search needs
@@ -29,14 +26,11 @@ querycap-requires c κs = search needs
 enum-told-2 : tie.Need-enum-told-2
 enum-told-2 c = search needs
 
-errno-requires-2 : tie.Need-errno-requires-2
-errno-requires-2 c κs = search needs
-
 returns-2 : tie.Need-returns-2
 returns-2 c x h k =
-    let a = c .before .before .before .before .before .before .args in
+    let a = c .before .before .before .before .before .args in
     let d = withSettings x (setupIn (now (a .setup))) (now (a .services)) in
-    arm-length EnumFmt (now (a .sheet)) d (now (a .argument)) (c .before .before .enum-told2 .given .1) refl (c .before .if2 .taken) (c .errno2 .ensures)
+    arm-length EnumFmt (now (a .sheet)) d (now (a .argument)) (c .before .enum-told2 .given .1) refl (c .if2 .taken) refl
 
 enum-fmt-requires : tie.Need-enum-fmt-requires
 enum-fmt-requires c κs = search needs
@@ -44,14 +38,11 @@ enum-fmt-requires c κs = search needs
 enum-told-3 : tie.Need-enum-told-3
 enum-told-3 c = search needs
 
-errno-requires-3 : tie.Need-errno-requires-3
-errno-requires-3 c κs = search needs
-
 returns-3 : tie.Need-returns-3
 returns-3 c x h k =
-    let a = c .before .before .before .before .before .before .args in
+    let a = c .before .before .before .before .before .args in
     let d = withSettings x (setupIn (now (a .setup))) (now (a .services)) in
-    arm-length GFmt (now (a .sheet)) d (now (a .argument)) (c .before .before .enum-told3 .given .1) refl (c .before .if3 .taken) (c .errno3 .ensures)
+    arm-length GFmt (now (a .sheet)) d (now (a .argument)) (c .before .enum-told3 .given .1) refl (c .if3 .taken) refl
 
 g-fmt-requires : tie.Need-g-fmt-requires
 g-fmt-requires c κs = search needs
@@ -59,14 +50,11 @@ g-fmt-requires c κs = search needs
 enum-told-4 : tie.Need-enum-told-4
 enum-told-4 c = search needs
 
-errno-requires-4 : tie.Need-errno-requires-4
-errno-requires-4 c κs = search needs
-
 returns-4 : tie.Need-returns-4
 returns-4 c x h k =
-    let a = c .before .before .before .before .before .before .args in
+    let a = c .before .before .before .before .before .args in
     let d = withSettings x (setupIn (now (a .setup))) (now (a .services)) in
-    arm-length SFmt (now (a .sheet)) d (now (a .argument)) (c .before .before .enum-told4 .given .1) refl (c .before .if4 .taken) (c .errno4 .ensures)
+    arm-length SFmt (now (a .sheet)) d (now (a .argument)) (c .before .enum-told4 .given .1) refl (c .if4 .taken) refl
 
 s-fmt-requires : tie.Need-s-fmt-requires
 s-fmt-requires c κs = search needs
@@ -74,14 +62,11 @@ s-fmt-requires c κs = search needs
 enum-told-5 : tie.Need-enum-told-5
 enum-told-5 c = search needs
 
-errno-requires-5 : tie.Need-errno-requires-5
-errno-requires-5 c κs = search needs
-
 returns-5 : tie.Need-returns-5
 returns-5 c x h k =
-    let a = c .before .before .before .before .before .before .args in
+    let a = c .before .before .before .before .before .args in
     let d = withSettings x (setupIn (now (a .setup))) (now (a .services)) in
-    arm-length TryFmt (now (a .sheet)) d (now (a .argument)) (c .before .before .enum-told5 .given .1) refl (c .before .if5 .taken) (c .errno5 .ensures)
+    arm-length TryFmt (now (a .sheet)) d (now (a .argument)) (c .before .enum-told5 .given .1) refl (c .if5 .taken) refl
 
 try-fmt-requires : tie.Need-try-fmt-requires
 try-fmt-requires c κs = search needs
@@ -89,14 +74,11 @@ try-fmt-requires c κs = search needs
 enum-told-6 : tie.Need-enum-told-6
 enum-told-6 c = search needs
 
-errno-requires-6 : tie.Need-errno-requires-6
-errno-requires-6 c κs = search needs
-
 returns-6 : tie.Need-returns-6
 returns-6 c x h k =
-    let a = c .before .before .before .before .before .before .args in
+    let a = c .before .before .before .before .before .args in
     let d = withSettings x (setupIn (now (a .setup))) (now (a .services)) in
-    arm-length Cropcap (now (a .sheet)) d (now (a .argument)) (c .before .before .enum-told6 .given .1) refl (c .before .if6 .taken) (c .errno6 .ensures)
+    arm-length Cropcap (now (a .sheet)) d (now (a .argument)) (c .before .enum-told6 .given .1) refl (c .if6 .taken) refl
 
 cropcap-requires : tie.Need-cropcap-requires
 cropcap-requires c κs = search needs
@@ -104,14 +86,11 @@ cropcap-requires c κs = search needs
 enum-told-7 : tie.Need-enum-told-7
 enum-told-7 c = search needs
 
-errno-requires-7 : tie.Need-errno-requires-7
-errno-requires-7 c κs = search needs
-
 returns-7 : tie.Need-returns-7
 returns-7 c x h k =
-    let a = c .before .before .before .before .before .before .args in
+    let a = c .before .before .before .before .before .args in
     let d = withSettings x (setupIn (now (a .setup))) (now (a .services)) in
-    arm-length GCrop (now (a .sheet)) d (now (a .argument)) (c .before .before .enum-told7 .given .1) refl (c .before .if7 .taken) (c .errno7 .ensures)
+    arm-length GCrop (now (a .sheet)) d (now (a .argument)) (c .before .enum-told7 .given .1) refl (c .if7 .taken) refl
 
 g-crop-requires : tie.Need-g-crop-requires
 g-crop-requires c κs = search needs
@@ -119,14 +98,11 @@ g-crop-requires c κs = search needs
 enum-told-8 : tie.Need-enum-told-8
 enum-told-8 c = search needs
 
-errno-requires-8 : tie.Need-errno-requires-8
-errno-requires-8 c κs = search needs
-
 returns-8 : tie.Need-returns-8
 returns-8 c x h k =
-    let a = c .before .before .before .before .before .before .args in
+    let a = c .before .before .before .before .before .args in
     let d = withSettings x (setupIn (now (a .setup))) (now (a .services)) in
-    arm-length SCrop (now (a .sheet)) d (now (a .argument)) (c .before .before .enum-told8 .given .1) refl (c .before .if8 .taken) (c .errno8 .ensures)
+    arm-length SCrop (now (a .sheet)) d (now (a .argument)) (c .before .enum-told8 .given .1) refl (c .if8 .taken) refl
 
 s-crop-requires : tie.Need-s-crop-requires
 s-crop-requires c κs = search needs
@@ -134,20 +110,17 @@ s-crop-requires c κs = search needs
 enum-told-9 : tie.Need-enum-told-9
 enum-told-9 c = search needs
 
-errno-requires-9 : tie.Need-errno-requires-9
-errno-requires-9 c κs = search needs
-
 returns-9 : tie.Need-returns-9
 returns-9 c x h k =
-    let a = c .before .before .before .before .before .before .args in
+    let a = c .before .before .before .before .before .args in
     let d = withSettings x (setupIn (now (a .setup))) (now (a .services)) in
-    arm-length GSlicedVbiCap (now (a .sheet)) d (now (a .argument)) (c .before .before .enum-told9 .given .1) refl (c .before .if9 .taken) (c .errno9 .ensures)
+    arm-length GSlicedVbiCap (now (a .sheet)) d (now (a .argument)) (c .before .enum-told9 .given .1) refl (c .if9 .taken) refl
 
 g-sliced-vbi-cap-requires : tie.Need-g-sliced-vbi-cap-requires
 g-sliced-vbi-cap-requires c κs = search needs
 
-errno-requires-10 : tie.Need-errno-requires-10
-errno-requires-10 c κs = search needs
+errno-requires : tie.Need-errno-requires
+errno-requires c κs = search needs
 
 same-length : tie.Need-same-length
 same-length c = search needs
@@ -235,49 +208,40 @@ returns-19 : tie.Need-returns-19
 returns-19 c x h k =
     let a = c .before .before .before .before .args in
     let d = withSettings x (setupIn (now (a .setup))) (now (a .services)) in
-    topic-other 1 (a .call) (now (a .sheet)) d (now (a .argument)) (elsewhere 1 (0 ∷ 6 ∷ 7 ∷ 8 ∷ 9 ∷ 10 ∷ 11 ∷ 12 ∷ 13 ∷ 14 ∷ []) tt (a .call) (c .before .match .keys10)) (c .errno10 .ensures)
+    topic-other 1 (a .call) (now (a .sheet)) d (now (a .argument)) (elsewhere 1 (0 ∷ 6 ∷ 7 ∷ 8 ∷ 9 ∷ 10 ∷ 11 ∷ 12 ∷ 13 ∷ 14 ∷ []) tt (a .call) (c .before .match .keys10)) (c .errno .ensures)
 
 pub setting-request-spec : {M : Type 1} → statement M
 setting-request-spec =
     tie.close
     (tie.spec
     enum-told
-    errno-requires
     returns
     querycap-requires
     enum-told-2
-    errno-requires-2
     returns-2
     enum-fmt-requires
     enum-told-3
-    errno-requires-3
     returns-3
     g-fmt-requires
     enum-told-4
-    errno-requires-4
     returns-4
     s-fmt-requires
     enum-told-5
-    errno-requires-5
     returns-5
     try-fmt-requires
     enum-told-6
-    errno-requires-6
     returns-6
     cropcap-requires
     enum-told-7
-    errno-requires-7
     returns-7
     g-crop-requires
     enum-told-8
-    errno-requires-8
     returns-8
     s-crop-requires
     enum-told-9
-    errno-requires-9
     returns-9
     g-sliced-vbi-cap-requires
-    errno-requires-10
+    errno-requires
     same-length
     returns-10
     same-length-2

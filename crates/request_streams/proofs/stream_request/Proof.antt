@@ -13,13 +13,10 @@ use Rattle.request_streams.proofs.stream_request.Tie as tie
 enum-told : tie.Need-enum-told
 enum-told c = search needs
 
-errno-requires : tie.Need-errno-requires
-errno-requires c κs = search needs
-
 returns : tie.Need-returns
 returns c s x h k =
-    let a = c .before .before .before .before .before .args in
-    arm-length Reqbufs s (withStreams x (streamIn (now (a .video))) (streamIn (now (a .captions)))) (now (a .argument)) (c .before .before .enum-told .given .1) refl (c .before .if1 .taken) (c .errno .ensures)
+    let a = c .before .before .before .before .args in
+    arm-length Reqbufs s (withStreams x (streamIn (now (a .video))) (streamIn (now (a .captions)))) (now (a .argument)) (c .before .enum-told .given .1) refl (c .if1 .taken) refl
 
 by-type-requires : tie.Need-by-type-requires
 by-type-requires c κs = search needs
@@ -27,13 +24,10 @@ by-type-requires c κs = search needs
 enum-told-2 : tie.Need-enum-told-2
 enum-told-2 c = search needs
 
-errno-requires-2 : tie.Need-errno-requires-2
-errno-requires-2 c κs = search needs
-
 returns-2 : tie.Need-returns-2
 returns-2 c s x h k =
-    let a = c .before .before .before .before .before .args in
-    arm-length Querybuf s (withStreams x (streamIn (now (a .video))) (streamIn (now (a .captions)))) (now (a .argument)) (c .before .before .enum-told2 .given .1) refl (c .before .if2 .taken) (c .errno2 .ensures)
+    let a = c .before .before .before .before .args in
+    arm-length Querybuf s (withStreams x (streamIn (now (a .video))) (streamIn (now (a .captions)))) (now (a .argument)) (c .before .enum-told2 .given .1) refl (c .if2 .taken) refl
 
 by-type-requires-2 : tie.Need-by-type-requires-2
 by-type-requires-2 c κs = search needs
@@ -41,13 +35,10 @@ by-type-requires-2 c κs = search needs
 enum-told-3 : tie.Need-enum-told-3
 enum-told-3 c = search needs
 
-errno-requires-3 : tie.Need-errno-requires-3
-errno-requires-3 c κs = search needs
-
 returns-3 : tie.Need-returns-3
 returns-3 c s x h k =
-    let a = c .before .before .before .before .before .args in
-    arm-length Qbuf s (withStreams x (streamIn (now (a .video))) (streamIn (now (a .captions)))) (now (a .argument)) (c .before .before .enum-told3 .given .1) refl (c .before .if3 .taken) (c .errno3 .ensures)
+    let a = c .before .before .before .before .args in
+    arm-length Qbuf s (withStreams x (streamIn (now (a .video))) (streamIn (now (a .captions)))) (now (a .argument)) (c .before .enum-told3 .given .1) refl (c .if3 .taken) refl
 
 by-type-requires-3 : tie.Need-by-type-requires-3
 by-type-requires-3 c κs = search needs
@@ -55,13 +46,10 @@ by-type-requires-3 c κs = search needs
 enum-told-4 : tie.Need-enum-told-4
 enum-told-4 c = search needs
 
-errno-requires-4 : tie.Need-errno-requires-4
-errno-requires-4 c κs = search needs
-
 returns-4 : tie.Need-returns-4
 returns-4 c s x h k =
-    let a = c .before .before .before .before .before .args in
-    arm-length Dqbuf s (withStreams x (streamIn (now (a .video))) (streamIn (now (a .captions)))) (now (a .argument)) (c .before .before .enum-told4 .given .1) refl (c .before .if4 .taken) (c .errno4 .ensures)
+    let a = c .before .before .before .before .args in
+    arm-length Dqbuf s (withStreams x (streamIn (now (a .video))) (streamIn (now (a .captions)))) (now (a .argument)) (c .before .enum-told4 .given .1) refl (c .if4 .taken) refl
 
 by-type-requires-4 : tie.Need-by-type-requires-4
 by-type-requires-4 c κs = search needs
@@ -69,13 +57,10 @@ by-type-requires-4 c κs = search needs
 enum-told-5 : tie.Need-enum-told-5
 enum-told-5 c = search needs
 
-errno-requires-5 : tie.Need-errno-requires-5
-errno-requires-5 c κs = search needs
-
 returns-5 : tie.Need-returns-5
 returns-5 c s x h k =
-    let a = c .before .before .before .before .before .args in
-    arm-length Streamon s (withStreams x (streamIn (now (a .video))) (streamIn (now (a .captions)))) (now (a .argument)) (c .before .before .enum-told5 .given .1) refl (c .before .if5 .taken) (c .errno5 .ensures)
+    let a = c .before .before .before .before .args in
+    arm-length Streamon s (withStreams x (streamIn (now (a .video))) (streamIn (now (a .captions)))) (now (a .argument)) (c .before .enum-told5 .given .1) refl (c .if5 .taken) refl
 
 by-type-requires-5 : tie.Need-by-type-requires-5
 by-type-requires-5 c κs = search needs
@@ -83,19 +68,16 @@ by-type-requires-5 c κs = search needs
 enum-told-6 : tie.Need-enum-told-6
 enum-told-6 c = search needs
 
-errno-requires-6 : tie.Need-errno-requires-6
-errno-requires-6 c κs = search needs
-
 returns-6 : tie.Need-returns-6
 returns-6 c s x h k =
-    let a = c .before .before .before .before .before .args in
-    arm-length Streamoff s (withStreams x (streamIn (now (a .video))) (streamIn (now (a .captions)))) (now (a .argument)) (c .before .before .enum-told6 .given .1) refl (c .before .if6 .taken) (c .errno6 .ensures)
+    let a = c .before .before .before .before .args in
+    arm-length Streamoff s (withStreams x (streamIn (now (a .video))) (streamIn (now (a .captions)))) (now (a .argument)) (c .before .enum-told6 .given .1) refl (c .if6 .taken) refl
 
 by-type-requires-6 : tie.Need-by-type-requires-6
 by-type-requires-6 c κs = search needs
 
-errno-requires-7 : tie.Need-errno-requires-7
-errno-requires-7 c κs = search needs
+errno-requires : tie.Need-errno-requires
+errno-requires c κs = search needs
 
 same-length : tie.Need-same-length
 same-length c = search needs
@@ -148,37 +130,31 @@ returns-12 c s x h k =
 returns-13 : tie.Need-returns-13
 returns-13 c s x h k =
     let a = c .before .before .before .args in
-    topic-other 2 (a .call) s (withStreams x (streamIn (now (a .video))) (streamIn (now (a .captions)))) (now (a .argument)) (elsewhere 2 (0 ∷ 1 ∷ 2 ∷ 3 ∷ 4 ∷ 5 ∷ 12 ∷ 13 ∷ 14 ∷ 15 ∷ 16 ∷ 17 ∷ 18 ∷ []) tt (a .call) (c .before .match .keys7)) (c .errno7 .ensures)
+    topic-other 2 (a .call) s (withStreams x (streamIn (now (a .video))) (streamIn (now (a .captions)))) (now (a .argument)) (elsewhere 2 (0 ∷ 1 ∷ 2 ∷ 3 ∷ 4 ∷ 5 ∷ 12 ∷ 13 ∷ 14 ∷ 15 ∷ 16 ∷ 17 ∷ 18 ∷ []) tt (a .call) (c .before .match .keys7)) (c .errno .ensures)
 
 pub stream-request-spec : {M : Type 1} → statement M
 stream-request-spec =
     tie.close
     (tie.spec
     enum-told
-    errno-requires
     returns
     by-type-requires
     enum-told-2
-    errno-requires-2
     returns-2
     by-type-requires-2
     enum-told-3
-    errno-requires-3
     returns-3
     by-type-requires-3
     enum-told-4
-    errno-requires-4
     returns-4
     by-type-requires-4
     enum-told-5
-    errno-requires-5
     returns-5
     by-type-requires-5
     enum-told-6
-    errno-requires-6
     returns-6
     by-type-requires-6
-    errno-requires-7
+    errno-requires
     same-length
     returns-7
     same-length-2

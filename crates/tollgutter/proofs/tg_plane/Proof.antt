@@ -55,17 +55,17 @@ use Rattle.tollgutter.proofs.Fields.{big-lit, membersOf, map-same, lend
 use Rattle.device_state.specs.State.{stateIn}
 use Rattle.device_state.specs.Setup.{setupIn}
 use Rattle.device_state.specs.State.{State, withSetup}
-use Rattle.device_film.specs.Film.{devicePlace}
+use Rattle.device_planes.specs.Planes.{devicePlace}
 use Rattle.device_state.specs.declared.Device.{Device}
 use Rattle.device_state.proofs.Device as T
 use Rattle.device_state.proofs.Device.Laws as T′
 use Rattle.plane_rules.specs.declared.Place.{Place}
 use Rattle.plane_rules.proofs.Place as S-Place
 use Rattle.plane_rules.proofs.Place.Laws as S-Place′
-use Rattle.device_film.proofs.plane_place as g
-use Rattle.device_film.proofs.plane_place.Symbol as g-def
-use Rattle.device_film.proofs.plane_place.Symbol.{name as #callee}
-use Rattle.device_film.proofs.plane_place.Met as g-thm
+use Rattle.device_planes.proofs.plane_place as g
+use Rattle.device_planes.proofs.plane_place.Symbol as g-def
+use Rattle.device_planes.proofs.plane_place.Symbol.{name as #callee}
+use Rattle.device_planes.proofs.plane_place.Met as g-thm
 use Rattle.tollgutter.proofs.tg_plane.Key.{name as #wrapper}
 use Rattle.tollgutter.proofs.tg_plane as f
 use Rattle.tollgutter.proofs.tg_plane.Statement as stated
@@ -173,4 +173,4 @@ tg-plane-spec 𝓤 H 𝓜 𝓖 𝓡 =
     entered 𝓤 H (tripleOf 𝓤 H (𝓖 .A) f.signature (f.spec 𝓤 H (𝓖 .A) (𝓜 .mem) (𝓡 .run)))
     (tables 𝓤 H 𝓜 𝓡 code.env .C) (tables 𝓤 H 𝓜 𝓡 code.env .Λ) #wrapper code.function (code.unfolded 𝓤 H 𝓜 𝓡)
     (meets 𝓤 H (𝓖 .A) (givenOf 𝓤 H 𝓜 𝓖) (𝓜 .mem) (𝓡 .run) (tablesOf 𝓤 H 𝓜 (tables 𝓤 H 𝓜 𝓡 code.env))
-    (cited 𝓤 H (Callee 𝓤 H (𝓖 .A) (𝓜 .mem) (𝓡 .run)) 𝓜 𝓡 code.env #callee g-def.routine code.calls-device-film·plane-place (g-thm.met 𝓤 H 𝓜 𝓖 𝓡)))
+    (cited 𝓤 H (Callee 𝓤 H (𝓖 .A) (𝓜 .mem) (𝓡 .run)) 𝓜 𝓡 code.env #callee g-def.routine code.calls-device-planes·plane-place (g-thm.met 𝓤 H 𝓜 𝓖 𝓡)))

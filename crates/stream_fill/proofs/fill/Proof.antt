@@ -6,8 +6,8 @@ use native.Mathlib.Omega.{arith}
 use lib.ListN.{length}
 use mathlib.Core.Path.{_≡_}
 use borrow.Author.Needs.{needs}
-use Rattle.stream_moves.proofs.fill.Statement.{statement}
-use Rattle.stream_moves.proofs.fill.Tie as tie
+use Rattle.stream_fill.proofs.fill.Statement.{statement}
+use Rattle.stream_fill.proofs.fill.Tie as tie
 
 holding-requires : tie.Need-holding-requires
 holding-requires c κs = search needs

@@ -2,10 +2,10 @@
 use denote.Ref.{now}
 use Rattle.device_state.specs.Setup.{setupIn}
 use Rattle.device_state.specs.State.{withSetup}
-use Rattle.device_film.proofs.Cases.{plane-closed, plane-open}
+use Rattle.device_planes.proofs.Cases.{plane-closed, plane-open}
 use borrow.Author.Needs.{needs}
-use Rattle.device_film.proofs.plane_place.Statement.{statement}
-use Rattle.device_film.proofs.plane_place.Tie as tie
+use Rattle.device_planes.proofs.plane_place.Statement.{statement}
+use Rattle.device_planes.proofs.plane_place.Tie as tie
 
 element-copy-out-if1 : tie.Need-element-copy-out-if1
 element-copy-out-if1 c = search needs

@@ -1,8 +1,8 @@
 -- The part at the place, and its number. Assumes nothing.
 use mathlib.Core.Path.{refl}
 use borrow.Author.Needs.{needs}
-use Rattle.device_film.proofs.plane.Statement.{statement}
-use Rattle.device_film.proofs.plane.Tie as tie
+use Rattle.device_planes.proofs.plane.Statement.{statement}
+use Rattle.device_planes.proofs.plane.Tie as tie
 
 plane-place-requires : tie.Need-plane-place-requires
 plane-place-requires c κs = search needs
