@@ -61,9 +61,11 @@ use Rattle.device_state.specs.Answers.{Answer, refused, byType}
 use Rattle.format_calls.specs.Formats.{querycapOf, enumFmtOf, gFmtOf}
 use Rattle.negotiation_calls.specs.Negotiations.{toldFormat, sFmtOf, tryFmtOf}
 use Rattle.crop_calls.specs.Crops.{cropcapOf, gCropOf, sCropOf, askedCrop}
-use Rattle.control_calls.specs.Controls.{queryctrlOf, gCtrlOf, sCtrlOf, readAs, setAs}
+use Rattle.control_calls.specs.Controls.{gCtrlOf, sCtrlOf, readAs, setAs}
+use Rattle.control_query_calls.specs.Query.{queryctrlOf}
 use Rattle.buffer_calls.specs.Buffers.{StreamAnswer, streamAnswer, stepped, reqbufsOf, querybufOf}
-use Rattle.queue_calls.specs.Queues.{enqueueReply, qbufOf, dqbufOf}
+use Rattle.queue_calls.specs.Queues.{enqueueReply, qbufOf}
+use Rattle.dequeue_calls.specs.Dequeues.{dqbufOf}
 use Rattle.run_calls.specs.Runs.{streamonOf, streamoffOf}
 use Rattle.request_topics.specs.Request.{byVideo, byCaptions, byServices, streamCall, callAnswer}
 use Rattle.device_opening.specs.Opening.{Opened, longestMemory, closedBy, openedOf}

@@ -32,11 +32,13 @@ use Rattle.device_state.specs.Answers.{Answer, answer, done, refused, byType}
 use Rattle.format_calls.specs.Formats.{querycapOf, enumFmtOf, gFmtOf}
 use Rattle.negotiation_calls.specs.Negotiations.{toldFormat, sFmtOf, tryFmtOf}
 use Rattle.crop_calls.specs.Crops.{cropcapOf, gCropOf, sCropOf}
-use Rattle.control_calls.specs.Controls.{queryctrlOf, gCtrlOf, sCtrlOf, readAs, setAs}
+use Rattle.control_calls.specs.Controls.{gCtrlOf, sCtrlOf, readAs, setAs}
+use Rattle.control_query_calls.specs.Query.{queryctrlOf}
 use Rattle.service_replies.specs.Services.{askedServices, servicesReply, servicesCapabilityReply}
 use Rattle.service_calls.specs.Services.{ServicesAnswer, servicesAnswer, gServicesOf, sServicesOf, tryServicesOf, servicesCapabilityOf}
 use Rattle.buffer_calls.specs.Buffers.{StreamAnswer, reqbufsOf, querybufOf}
-use Rattle.queue_calls.specs.Queues.{qbufOf, dqbufOf}
+use Rattle.queue_calls.specs.Queues.{qbufOf}
+use Rattle.dequeue_calls.specs.Dequeues.{dqbufOf}
 use Rattle.run_calls.specs.Runs.{streamonOf, streamoffOf}
 use Rattle.run_calls.proofs.Refused.{HonestStream, reqbufs-honest, querybuf-honest, qbuf-honest, dqbuf-honest, streamon-honest, streamoff-honest}
 use Rattle.request_topics.specs.Request.{byVideo, byCaptions, byServices, streamCall, callAnswer, requestAnswer}

@@ -36,7 +36,8 @@ use Rattle.device_state.specs.Answers.{Answer, refused, byType}
 use Rattle.format_calls.specs.Formats.{querycapOf, enumFmtOf, gFmtOf}
 use Rattle.negotiation_calls.specs.Negotiations.{sFmtOf, tryFmtOf}
 use Rattle.crop_calls.specs.Crops.{cropcapOf, gCropOf, sCropOf}
-use Rattle.control_calls.specs.Controls.{queryctrlOf, gCtrlOf, sCtrlOf, readAs, setAs}
+use Rattle.control_calls.specs.Controls.{gCtrlOf, sCtrlOf, readAs, setAs}
+use Rattle.control_query_calls.specs.Query.{queryctrlOf}
 use Rattle.request_topics.specs.Request.{byServices, callAnswer, requestAnswer}
 use Rattle.sheet_copy.specs.Copy.{keptOf}
 use Rattle.negotiation_rules.specs.Negotiation.{negotiated, askedFormat}

@@ -53,9 +53,11 @@ use Rattle.device_state.specs.Answers.{Answer, answer, done, refused, byType}
 use Rattle.format_calls.specs.Formats.{querycapOf, enumFmtOf, gFmtOf}
 use Rattle.negotiation_calls.specs.Negotiations.{toldFormat, sFmtOf, tryFmtOf}
 use Rattle.crop_calls.specs.Crops.{cropcapOf, gCropOf, sCropOf}
-use Rattle.control_calls.specs.Controls.{queryctrlOf, gCtrlOf, sCtrlOf, readAs, setAs}
+use Rattle.control_calls.specs.Controls.{gCtrlOf, sCtrlOf, readAs, setAs}
+use Rattle.control_query_calls.specs.Query.{queryctrlOf}
 use Rattle.buffer_calls.specs.Buffers.{StreamAnswer, streamAnswer, stepped, requestReply, queriedAs, reqbufsOf, querybufOf}
-use Rattle.queue_calls.specs.Queues.{dequeueReply, qbufOf, dqbufOf}
+use Rattle.queue_calls.specs.Queues.{qbufOf}
+use Rattle.dequeue_calls.specs.Dequeues.{dequeueReply, dqbufOf}
 use Rattle.run_calls.specs.Runs.{streamonOf, streamoffOf}
 use Rattle.device_opening.specs.Opening.{longestMemory}
 use Rattle.service_rules.specs.Negotiation.{ioSize}

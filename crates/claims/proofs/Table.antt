@@ -33,10 +33,12 @@ use Rattle.device_state.specs.Answers.{Answer, refused, byType}
 use Rattle.format_calls.specs.Formats.{querycapOf, enumFmtOf, gFmtOf}
 use Rattle.negotiation_calls.specs.Negotiations.{sFmtOf, tryFmtOf}
 use Rattle.crop_calls.specs.Crops.{cropcapOf, gCropOf, sCropOf}
-use Rattle.control_calls.specs.Controls.{queryctrlOf, gCtrlOf, sCtrlOf, readAs, setAs}
+use Rattle.control_calls.specs.Controls.{gCtrlOf, sCtrlOf, readAs, setAs}
+use Rattle.control_query_calls.specs.Query.{queryctrlOf}
 use Rattle.service_calls.specs.Services.{ServicesAnswer, servicesAnswer, gServicesOf, sServicesOf, tryServicesOf, servicesCapabilityOf}
 use Rattle.buffer_calls.specs.Buffers.{StreamAnswer, reqbufsOf, querybufOf}
-use Rattle.queue_calls.specs.Queues.{qbufOf, dqbufOf}
+use Rattle.queue_calls.specs.Queues.{qbufOf}
+use Rattle.dequeue_calls.specs.Dequeues.{dqbufOf}
 use Rattle.run_calls.specs.Runs.{streamonOf, streamoffOf}
 use Rattle.run_calls.proofs.Numbers.{reqbufs-number, querybuf-number, qbuf-number, dqbuf-number, streamon-number, streamoff-number}
 use Rattle.request_topics.specs.Request.{byServices, streamCall, callAnswer, requestAnswer}

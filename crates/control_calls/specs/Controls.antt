@@ -1,27 +1,17 @@
--- What the requests about controls answer.
+-- What the requests about the values of controls answer.
 use Prim.Native.Nat.{ℕ}
-use mathlib.Core.Bool.{cond}
 use mathlib.Core.List.{List}
-use lib.Dec.{leb}
 use lib.ListN.{set}
 use lib.Seq.{sets}
 use Rattle.wire_read.specs.Words.{wordAt}
-use Rattle.ioctl_table.specs.declared.refusals.Refusal.the-variants.{NoSuchControl}
-use Rattle.control_place_rules.specs.Find.{present, queriedPlace}
 use Rattle.control_value_rules.specs.Values.{reading, settingOf}
 use Rattle.control_value_rules.specs.declared.Reading.{Reading}
 use Rattle.control_value_rules.specs.declared.Reading.the-variants as reads
 use Rattle.control_value_rules.specs.declared.Setting.{Setting}
 use Rattle.control_value_rules.specs.declared.Setting.the-variants as settings
-use Rattle.control_replies.specs.Replies.{controlReply, valueReply}
+use Rattle.control_replies.specs.Replies.{valueReply}
 use Rattle.device_state.specs.State.{State, withValues}
 use Rattle.device_state.specs.Answers.{Answer, done, refused}
-
--- QUERYCTRL: an id that is there, or with bit 31 the next higher one
-unfoldable pub queryctrlOf : List ℕ → State → List ℕ → Answer
-queryctrlOf s d a =
-    cond (leb (present s) (queriedPlace s (wordAt a 0))) (refused NoSuchControl d a)
-    (done d (sets a 0 (controlReply s (queriedPlace s (wordAt a 0)))))
 
 -- what a reading answers
 abbrev pub readAs : Reading → ℕ → State → List ℕ → Answer

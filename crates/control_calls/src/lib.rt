@@ -1,25 +1,12 @@
-// The requests about controls. Each takes an argument of the length that its word says, and answers any other as far as it reaches.
+// The requests that read and set the value of a control. Each takes an argument of the length that its word says, and answers any other as far as it reaches.
 ghost use mathlib.Core.Path.{_≡_};
 ghost use lib.ListN.{set};
 ghost use Rattle.device_state.specs.State.{State, withValues};
 ghost use Rattle.device_state.specs.Answers.{answer};
-ghost use Rattle.control_calls.specs.Controls.{queryctrlOf, gCtrlOf, sCtrlOf};
+ghost use Rattle.control_calls.specs.Controls.{gCtrlOf, sCtrlOf};
 use control_value_rules::Reading;
 use control_value_rules::Setting;
 use control_value_rules::Values;
-use ioctl_table::Refusal;
-
-// The control of an id, or with bit 31 the one of the next higher id.
-pub fn queryctrl(sheet: &[u8], argument: &mut [u8]) -> u32
-    ensures { λ r. ⌜ ((d : State) → answer r d (now (argument .exit)) ≡ queryctrlOf (now (sheet .entry)) d (now (argument .entry))) ⌝ }
-{
-    let k = control_place_rules::queried(sheet, wire_read::word_at(argument, 0));
-    if control_place_rules::count(sheet) <= k {
-        return ioctl_table::errno(Refusal::NoSuchControl);
-    }
-    control_replies::put_control(argument, sheet, k);
-    0
-}
 
 // The value of a control.
 pub fn g_ctrl(sheet: &[u8], values: &Values, argument: &mut [u8]) -> u32

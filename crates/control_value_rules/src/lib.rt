@@ -1,6 +1,6 @@
-// The values of controls: at opening, read, and set. They are kept as the 32 bits that a client sees.
+// The values of controls, read and set. They are kept as the 32 bits that a client sees.
 ghost use mathlib.Core.Path.{_≡_};
-ghost use Rattle.control_value_rules.specs.Values.{openingValues, readingAt, reading, rangedAt, settingAt, settingOf};
+ghost use Rattle.control_value_rules.specs.Values.{readingAt, reading, rangedAt, settingAt, settingOf};
 use ioctl_table::Refusal;
 use sheet_records::Control;
 use sheet_records::Limits;
@@ -20,21 +20,6 @@ pub enum Setting {
 
 // One value for each control.
 pub type Values = [u32; 32];
-
-// The defaults of the sheet's controls, then zeros.
-pub fn at_opening(s: &[u8]) -> Values
-    ensures { λ r. ⌜ r ≡ openingValues (now (s .entry)) ⌝ }
-{
-    let n = control_place_rules::count(s);
-    let mut values = [0u32; 32];
-    let mut k: u32 = 0;
-    while k < n {
-        let at = sheet_contents::control_at(s, k);
-        values[k as usize] = wire_read::word_at(s, at + 52);
-        k += 1;
-    }
-    values
-}
 
 // What reading control c, whose value is v, answers.
 fn reading_at(c: Control, v: u32) -> Reading

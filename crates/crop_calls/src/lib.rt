@@ -39,7 +39,7 @@ pub fn g_crop(setup: &SetupWords, argument: &mut [u8]) -> u32
     if wire_read::word_at(argument, 0) != 1 {
         return ioctl_table::errno(Refusal::WrongType);
     }
-    crop_replies::put_crop(argument, device_setup::crop_in(setup));
+    crop_replies::put_crop(argument, device_crop::crop_in(setup));
     0
 }
 
@@ -51,7 +51,7 @@ pub fn s_crop(sheet: &[u8], setup: &mut SetupWords, argument: &[u8]) -> u32
     if wire_read::word_at(argument, 0) != 1 {
         return ioctl_table::errno(Refusal::WrongType);
     }
-    let r = crop_rules::clamp(sheet_geometry::crop_bounds(sheet), asked(argument));
-    device_setup::keep_crop(setup, r);
+    let r = crop_rules::clamp(sheet_crop::crop_bounds(sheet), asked(argument));
+    device_crop::keep_crop(setup, r);
     0
 }

@@ -45,7 +45,7 @@ pub fn open_device(sheet: &[u8], pictures: u64, captions: u64) -> Made
     }
     let copy = sheet_copy::kept(sheet);
     let setup = device_state::opening(&copy);
-    let values = control_value_rules::at_opening(&copy);
+    let values = control_opening_rules::at_opening(&copy);
     let device = Device {
         sheet: copy,
         setup,

@@ -50,7 +50,7 @@ pub fn opening(sheet: &[u8]) -> SetupWords
     let alignment = sheet_geometry::line_alignment(sheet);
     let line = format_rules::bytes_per_line(f, alignment);
     let size = format_rules::image_size(f, alignment);
-    let c = sheet_geometry::crop_default(sheet);
+    let c = sheet_crop::crop_default(sheet);
     [
         1,
         f.width,

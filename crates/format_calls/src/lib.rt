@@ -36,7 +36,7 @@ pub fn g_fmt(setup: &SetupWords, argument: &mut [u8]) -> u32
         ≡ gFmtOf (withSetup d (setupIn (now (setup .entry)))) (now (argument .entry))) ⌝ }
 {
     let f = device_setup::format_in(setup);
-    negotiation_rules::put_format(
+    negotiation_replies::put_format(
         argument,
         1,
         f,

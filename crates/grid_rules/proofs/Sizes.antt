@@ -1,8 +1,10 @@
 -- What the nearest size is, of every grid whose greatest size is n steps up from the least, for every size asked. Assumes nothing.
-use Prim.Native.Nat.{ℕ, _+_, _-_, _*_, _/_, _%_, _≤_, _<_}
+use Prim.Native.Nat.{ℕ, suc, _+_, _-_, _*_, _/_, _%_, _≤_, _<_}
 use mathlib.Core.Path.{_≡_, sym, ap, _∙_}
 use native.Mathlib.Omega.{arith}
 use native.Mathlib.Nat.{mul-le-mul-right, mul-div-cancel, div-add-mod', mul-mod-left}
+use lib.ListN.{length, getD}
+use Rattle.wire_read.proofs.Tabs.{tab-length, tab-get}
 use Rattle.sheet_geometry.specs.declared.Range.{Range}
 use Rattle.grid_rules.specs.Grid.{nearestUpTo, nearestSize, apart, sizeAt, sizesOf, walkSizes}
 use Rattle.grid_rules.proofs.Places.{First, walked, multiple-kept, Nearest, nearest}
@@ -32,6 +34,18 @@ module _ (r : Range) (n : ℕ) (some : 0 < r .step) (whole : r .greatest ≡ r .
   -- the way from the least size to the greatest
   span : r .greatest - r .least ≡ n * r .step
   span = omega arith
+
+  -- the list has n sizes and one more, each a step up from the one before it, and it ends with the greatest
+  pub sizes-length : length (sizesOf r) ≡ suc n
+  unfolding sizesOf
+  sizes-length = rw (span, mul-div-cancel n some) (tab-length (sizeAt r) (suc n))
+
+  pub sizes-at : (k : ℕ) → k ≤ n → getD (sizesOf r) k 0 ≡ sizeAt r k
+  unfolding sizesOf
+  sizes-at k h = rw (span, mul-div-cancel n some) (tab-get (sizeAt r) (suc n) k 0 (omega arith))
+
+  pub sizes-end : getD (sizesOf r) n 0 ≡ r .greatest
+  sizes-end = sizes-at n (omega arith) ∙ sym whole
 
   module _ (asked : ℕ) where
     -- how many steps up the answer is

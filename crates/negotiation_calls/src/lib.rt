@@ -39,7 +39,7 @@ pub fn s_fmt(sheet: &[u8], setup: &mut SetupWords, granted: u64, argument: &mut 
     }
     let p = pictured(sheet, negotiation_rules::asked(argument));
     let f = p.format;
-    negotiation_rules::put_format(argument, 1, f, p.line, p.size);
+    negotiation_replies::put_format(argument, 1, f, p.line, p.size);
     device_setup::keep_format(setup, f, p.line, p.size);
     0
 }
@@ -50,6 +50,6 @@ pub fn try_fmt(sheet: &[u8], argument: &mut [u8]) -> u32
 {
     let p = pictured(sheet, negotiation_rules::asked(argument));
     let f = p.format;
-    negotiation_rules::put_format(argument, 1, f, p.line, p.size);
+    negotiation_replies::put_format(argument, 1, f, p.line, p.size);
     0
 }

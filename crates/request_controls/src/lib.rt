@@ -30,7 +30,7 @@ pub fn control_request(call: Call, sheet: &[u8], values: &mut Values, argument: 
             if argument.len() != 68 {
                 return request_topics::WRONG_LENGTH;
             }
-            control_calls::queryctrl(sheet, argument)
+            control_query_calls::queryctrl(sheet, argument)
         }
         _ => ioctl_table::errno(Refusal::UnknownWord),
     }

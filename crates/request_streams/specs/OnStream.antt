@@ -7,7 +7,8 @@ use Rattle.ioctl_table.specs.declared.table.Call.{Call}
 use Rattle.ioctl_table.specs.declared.table.Call.the-variants.{Unknown, Querycap, EnumFmt, GFmt, SFmt, TryFmt, Reqbufs, Querybuf, Qbuf, Dqbuf, Streamon, Streamoff, GCtrl, SCtrl, Queryctrl, Cropcap, GCrop, SCrop, GSlicedVbiCap}
 use Rattle.stream_words.specs.Stream.{Stream}
 use Rattle.buffer_calls.specs.Buffers.{StreamAnswer, streamAnswer, reqbufsOf, querybufOf}
-use Rattle.queue_calls.specs.Queues.{qbufOf, dqbufOf}
+use Rattle.queue_calls.specs.Queues.{qbufOf}
+use Rattle.dequeue_calls.specs.Dequeues.{dqbufOf}
 use Rattle.run_calls.specs.Runs.{streamonOf, streamoffOf}
 
 -- no call on a stream

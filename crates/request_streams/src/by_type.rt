@@ -44,7 +44,7 @@ fn on_stream(call: Call, kind: u32, size: u32, s: &mut Words, argument: &mut [u8
             if argument.len() != 68 {
                 return 0;
             }
-            queue_calls::dqbuf(s, kind, size, argument)
+            dequeue_calls::dqbuf(s, kind, size, argument)
         }
         Call::Streamon => run_calls::streamon(s),
         Call::Streamoff => run_calls::streamoff(s),

@@ -14,11 +14,13 @@ use Rattle.device_state.specs.Answers.{Answer, answer, refused, byType}
 use Rattle.format_calls.specs.Formats.{querycapOf, enumFmtOf, gFmtOf}
 use Rattle.negotiation_calls.specs.Negotiations.{sFmtOf, tryFmtOf}
 use Rattle.crop_calls.specs.Crops.{cropcapOf, gCropOf, sCropOf}
-use Rattle.control_calls.specs.Controls.{queryctrlOf, gCtrlOf, sCtrlOf}
+use Rattle.control_calls.specs.Controls.{gCtrlOf, sCtrlOf}
+use Rattle.control_query_calls.specs.Query.{queryctrlOf}
 use Rattle.service_rules.specs.Negotiation.{ioSize}
 use Rattle.service_calls.specs.Services.{ServicesAnswer, gServicesOf, sServicesOf, tryServicesOf, servicesCapabilityOf}
 use Rattle.buffer_calls.specs.Buffers.{StreamAnswer, reqbufsOf, querybufOf}
-use Rattle.queue_calls.specs.Queues.{qbufOf, dqbufOf}
+use Rattle.queue_calls.specs.Queues.{qbufOf}
+use Rattle.dequeue_calls.specs.Dequeues.{dqbufOf}
 use Rattle.run_calls.specs.Runs.{streamonOf, streamoffOf}
 
 -- what the device answers when its stream of pictures does, when its stream of captions does, and when its services do

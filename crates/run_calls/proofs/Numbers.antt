@@ -20,7 +20,8 @@ use Rattle.stream_run.specs.Numbers.{replyNumber}
 use Rattle.stream_status.specs.declared.Queried.the-variants as queries
 use Rattle.stream_status.specs.Buffer.{statusOf, queryOf}
 use Rattle.buffer_calls.specs.Buffers.{StreamAnswer, streamAnswer, queriedAs, reqbufsOf, querybufOf}
-use Rattle.queue_calls.specs.Queues.{qbufOf, dqbufOf}
+use Rattle.queue_calls.specs.Queues.{qbufOf}
+use Rattle.dequeue_calls.specs.Dequeues.{dqbufOf}
 use Rattle.run_calls.specs.Runs.{streamonOf, streamoffOf}
 
 -- a test before the rest: its number, or that of the rest

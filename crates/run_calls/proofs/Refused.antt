@@ -22,7 +22,8 @@ use Rattle.stream_status.specs.declared.Queried.the-variants as queries
 use Rattle.stream_status.specs.Buffer.{statusOf, queryOf, returnedOf}
 use Rattle.buffer_replies.specs.Replies.{buffersReply, bufferReply}
 use Rattle.buffer_calls.specs.Buffers.{StreamAnswer, streamAnswer, stepped, requestReply, queriedAs, reqbufsOf, querybufOf}
-use Rattle.queue_calls.specs.Queues.{enqueueReply, dequeueReply, qbufOf, dqbufOf}
+use Rattle.queue_calls.specs.Queues.{enqueueReply, qbufOf}
+use Rattle.dequeue_calls.specs.Dequeues.{dequeueReply, dqbufOf}
 use Rattle.run_calls.specs.Runs.{streamonOf, streamoffOf}
 
 -- an answer that is honest about stream s and argument a

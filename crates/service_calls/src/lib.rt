@@ -25,7 +25,7 @@ pub fn s_fmt(lines: &mut Lines, kind: u32, granted: u64, argument: &mut [u8]) ->
     if granted != 0 {
         return ioctl_table::errno(Refusal::BuffersExist);
     }
-    let fitting = service_replies::asked_services(argument);
+    let fitting = service_wishes::asked_services(argument);
     service_replies::put_services(argument, kind, &fitting);
     *lines = fitting;
     0
@@ -35,7 +35,7 @@ pub fn s_fmt(lines: &mut Lines, kind: u32, granted: u64, argument: &mut [u8]) ->
 pub fn try_fmt(kind: u32, argument: &mut [u8]) -> u32
     ensures { λ r. ⌜ ((l : List ℕ) → servicesAnswer r l (now (argument .exit)) ≡ tryServicesOf kind l (now (argument .entry))) ⌝ }
 {
-    let fitting = service_replies::asked_services(argument);
+    let fitting = service_wishes::asked_services(argument);
     service_replies::put_services(argument, kind, &fitting);
     0
 }

@@ -1,7 +1,5 @@
-// The bytes that ask for services, and those that answer.
-mod asked;
+// The bytes that answer with services.
 mod told;
 
-pub use asked::asked_services;
 pub use told::put_services;
 pub use told::put_services_capability;

@@ -66,7 +66,7 @@ fn default_ok(s: &[u8]) -> bool
 fn aspect_ok(s: &[u8]) -> bool
     ensures { λ r. ⌜ r ≡ aspectOk (now (s .entry)) ⌝ }
 {
-    let a = sheet_geometry::pixel_aspect(s);
+    let a = sheet_crop::pixel_aspect(s);
     (0 < a.numerator) & (0 < a.denominator)
 }
 

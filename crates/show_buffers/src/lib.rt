@@ -12,7 +12,7 @@ fn asked(s: &mut Words, c: u8, size: u32, a: &mut [u8]) -> u32 {
         b'r' => buffer_calls::reqbufs(s, 1, size, a),
         b'b' => buffer_calls::querybuf(s, 1, size, a),
         b'q' => queue_calls::qbuf(s, 1, size, a),
-        b'd' => queue_calls::dqbuf(s, 1, size, a),
+        b'd' => dequeue_calls::dqbuf(s, 1, size, a),
         b's' => run_calls::streamon(s),
         _ => run_calls::streamoff(s),
     }

@@ -36,7 +36,7 @@ pub(crate) fn cropped(s: &[u8; 324]) {
         width: 608,
         height: 400,
     };
-    let r = crop_rules::clamp(sheet_geometry::crop_bounds(s), asked);
+    let r = crop_rules::clamp(sheet_crop::crop_bounds(s), asked);
     let numbers = [
         wire_signed::as_bits(r.left),
         wire_signed::as_bits(r.top),

@@ -1,7 +1,8 @@
-//! Checks that what the documents of the repository name is where they say: `names DIRECTORY`. A line for each fault, or one line if
-//! there is none.
+//! Checks that what the documents of the repository name is where they say, and that the must-fail edits fit their files: `names DIRECTORY`.
+//! A line for each fault, or one line if there is none.
 mod check;
 mod document;
+mod edits;
 mod groups;
 mod index;
 
@@ -40,13 +41,18 @@ fn run(root: &Path) -> io::Result<bool> {
             _ => {}
         }
     }
-    for fault in &checker.faults {
+    let (edits, misfits) = edits::check(root);
+    for fault in checker.faults.iter().chain(&misfits) {
         println!("{fault}");
     }
-    if checker.faults.is_empty() {
-        println!("names: {} names in {} documents, all where the text says", checker.names, documents.len());
+    let right = checker.faults.is_empty() && misfits.is_empty();
+    if right {
+        let (names, documents) = (checker.names, documents.len());
+        println!(
+            "names: {names} names in {documents} documents, all where the text says; {edits} edits, all of which fit"
+        );
     }
-    Ok(checker.faults.is_empty())
+    Ok(right)
 }
 
 fn main() -> ExitCode {
