@@ -17,7 +17,7 @@ pub fn place(s: &[u8], id: u32) -> u32
     let n = count(s);
     let mut k: u32 = 0;
     while k < n {
-        if sheet_records::control_id(s, k) == id {
+        if sheet_controls::control_id(s, k) == id {
             return k;
         }
         k += 1;
@@ -32,7 +32,7 @@ fn place_above(s: &[u8], id: u32) -> u32
     let n = count(s);
     let mut k: u32 = 0;
     while k < n {
-        if id < sheet_records::control_id(s, k) {
+        if id < sheet_controls::control_id(s, k) {
             return k;
         }
         k += 1;

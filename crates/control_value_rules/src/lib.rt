@@ -43,7 +43,7 @@ pub fn read(s: &[u8], values: &Values, id: u32) -> Reading
         return Reading::Refused(Refusal::NoSuchControl);
     }
     let v = values[k as usize];
-    reading_at(sheet_records::control_fields(s, k), v)
+    reading_at(sheet_controls::control_fields(s, k), v)
 }
 
 // A value within the limits goes to the nearest of the grid, and is stored at place k.
@@ -87,5 +87,5 @@ pub fn set(s: &[u8], id: u32, value: u32) -> Setting
     if control_place_rules::count(s) <= k {
         return Setting::Refused(Refusal::NoSuchControl);
     }
-    setting_at(sheet_records::control_fields(s, k), k, value)
+    setting_at(sheet_controls::control_fields(s, k), k, value)
 }

@@ -1,7 +1,7 @@
 // The crop that requests choose, read and kept in the words of the setup.
 ghost use mathlib.Core.Path.{_≡_};
 ghost use Rattle.device_state.specs.Setup.{setupIn};
-ghost use Rattle.device_setup.specs.Changes.{changedCrop};
+ghost use Rattle.device_state.specs.Changes.{changedCrop};
 use device_state::SetupWords;
 use sheet_geometry::Rect;
 

@@ -44,7 +44,7 @@ fn lines(
         memory,
         frame,
         whole,
-        service_rules::io_size(services),
+        service_sizes::io_size(services),
         time,
     )
 }

@@ -29,7 +29,7 @@ pub fn arrive(
         × (stateIn (now (setup .entry)) v (now (services .entry)) (now (video .exit)) (now (captions .exit)) ≡ takenOf (stateIn (now (setup .entry)) v (now (services .entry)) (now (video .entry)) (now (captions .entry))) kind (length (now (memory .entry))) (now (frame .entry)) (timeOf seconds microseconds) .state)
         × (now (memory .exit) ≡ takenMemory (stateIn (now (setup .entry)) v (now (services .entry)) (now (video .entry)) (now (captions .entry))) kind (now (memory .entry)) (now (frame .entry)) (timeOf seconds microseconds))) ⌝ }
 {
-    let time = stream_words::time_of(seconds, microseconds);
+    let time = stream_frames::time_of(seconds, microseconds);
     let a = device_film::arrive(setup, services, video, captions, kind, memory, frame, time);
     arrival_replies::answer_numbers(a)
 }

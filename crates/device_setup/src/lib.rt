@@ -1,7 +1,7 @@
 // The format that requests choose, read and kept in the words of the setup. The crop is in `device_crop`.
 ghost use mathlib.Core.Path.{_≡_};
 ghost use Rattle.device_state.specs.Setup.{setupIn};
-ghost use Rattle.device_setup.specs.Changes.{changedFormat};
+ghost use Rattle.device_state.specs.Changes.{changedFormat};
 use device_state::LINE;
 use device_state::SIZE;
 use device_state::SetupWords;

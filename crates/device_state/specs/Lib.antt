@@ -1,3 +1,4 @@
 pub mod Answers
 pub mod Setup
 pub mod State
+pub mod Changes

@@ -75,7 +75,7 @@ pub(crate) fn by_type(
         return on_stream(
             call,
             CAPTIONS,
-            service_rules::io_size(services),
+            service_sizes::io_size(services),
             captions,
             argument,
         );

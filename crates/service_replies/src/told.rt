@@ -36,7 +36,7 @@ pub fn put_services(argument: &mut [u8], kind: u32, lines: &Lines)
     wire_store::put_word(&mut b, 0, kind);
     put_half(&mut b, 4, service_rules::union_of(lines));
     put_lines(&mut b, 6, lines);
-    wire_store::put_word(&mut b, 104, service_rules::io_size(lines));
+    wire_store::put_word(&mut b, 104, service_sizes::io_size(lines));
     wire_copy::put_bytes(argument, 0, &b);
 }
 

@@ -2,7 +2,6 @@
 mod lines;
 mod sets;
 
-pub use lines::io_size;
 pub use lines::negotiate;
 pub use lines::offered_lines;
 pub use lines::union_of;

@@ -1,12 +1,12 @@
 // What is offered on each line, what is made of what a client asks for, and what an answer's own lines say.
 ghost use mathlib.Core.Path.{_≡_};
-ghost use mathlib.Core.Bool.{cond, not};
-ghost use Prim.Native.Nat.{_≤_, _<_};
+ghost use mathlib.Core.Bool.{cond};
+ghost use Prim.Native.Nat.{_<_};
 ghost use lib.Dec.{eqb};
 ghost use lib.ListN.{getD};
 ghost use Rattle.sheet_rules.specs.Folds.{anyBelow};
 ghost use Rattle.service_rules.specs.Services.{has, capabilityLines};
-ghost use Rattle.service_rules.specs.Negotiation.{negotiatedLines, unionOf, ioSize};
+ghost use Rattle.service_rules.specs.Negotiation.{negotiatedLines, unionOf};
 use crate::Lines;
 use crate::sets;
 
@@ -111,25 +111,4 @@ pub fn union_of(lines: &Lines) -> u16
         on_a_line(lines, sets::CAPTION_525),
         on_a_line(lines, sets::WSS_625),
     )
-}
-
-// 1 for a line that carries something.
-fn carries(line: u16) -> u32
-    ensures { λ r. ⌜ r ≡ cond (not (eqb line 0)) 1 0 ⌝ }
-    ensures { λ r. ⌜ r ≤ 1 ⌝ }
-{
-    if line == 0 { 0 } else { 1 }
-}
-
-// The io size: 64 bytes for each line that carries something.
-pub fn io_size(lines: &Lines) -> u32
-    ensures { λ r. ⌜ r ≡ ioSize (now (lines .entry)) ⌝ }
-{
-    let mut n: u32 = 0;
-    let mut k: usize = 0;
-    while k < 48 {
-        n += carries(lines[k]);
-        k += 1;
-    }
-    64 * n
 }

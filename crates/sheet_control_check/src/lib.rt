@@ -23,7 +23,7 @@ fn control_ok(s: &[u8], k: u32) -> bool
 {
     let at = sheet_contents::control_at(s, k);
     let kind = wire_read::word_at(s, at + 4);
-    (sheet_records::control_id(s, k) < 0x8000_0000)
+    (sheet_controls::control_id(s, k) < 0x8000_0000)
         & (1 <= kind)
         & (kind <= 4)
         & sheet_rules::has_zero(wire_read::part(s, at + 8, 32))
@@ -40,7 +40,7 @@ fn rising(s: &[u8], k: u32) -> bool
     if k == 0 {
         return true;
     }
-    sheet_records::control_id(s, k - 1) < sheet_records::control_id(s, k)
+    sheet_controls::control_id(s, k - 1) < sheet_controls::control_id(s, k)
 }
 
 // The first n controls.

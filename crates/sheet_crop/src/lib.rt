@@ -8,7 +8,7 @@ use sheet_geometry::Rect;
 fn rect_at(s: &[u8], at: usize) -> Rect
     ensures { λ r. ⌜ r ≡ rectAt (now (s .entry)) at ⌝ }
 {
-    let w = wire_copy::four_words(s, at);
+    let w = wire_four::four_words(s, at);
     Rect {
         left: wire_signed::as_signed(w[0]),
         top: wire_signed::as_signed(w[1]),

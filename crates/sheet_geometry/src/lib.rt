@@ -30,7 +30,7 @@ pub struct Fraction {
 fn range_at(s: &[u8], at: usize) -> Range
     ensures { λ r. ⌜ r ≡ rangeAt (now (s .entry)) at ⌝ }
 {
-    let w = wire_copy::four_words(s, at);
+    let w = wire_four::four_words(s, at);
     Range {
         least: w[0],
         greatest: w[1],

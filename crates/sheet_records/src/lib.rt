@@ -1,9 +1,6 @@
-// A sheet's formats and controls, field by field.
-mod controls;
+// A sheet's formats, field by field, and what the fields of its controls are. Those are read in `sheet_controls`.
 mod formats;
 
-pub use controls::control_fields;
-pub use controls::control_id;
 pub use formats::format_code;
 pub use formats::format_description;
 

@@ -39,7 +39,7 @@ fn whole(c: u8, bytes: u64, size: u32, time: Time) -> bool {
 
 // What became of a frame is written as words, and the kind of that is given back as a digit.
 fn taken(s: &mut Words, memory: &mut [u8], frame: &[u8], e: Event, a: &mut [u8]) -> u8 {
-    let time = stream_words::time_of(e.clock, e.number);
+    let time = stream_frames::time_of(e.clock, e.number);
     let called = whole(e.letter, frame.len() as u64, e.size, time);
     let told = arrival_replies::answer_numbers(stream_arrival::arrive(
         s,

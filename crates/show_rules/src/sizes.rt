@@ -20,13 +20,11 @@ fn negotiate(s: &[u8; 324], alignment: u32, width: u32, height: u32) {
     show_lines::line(b"YUYV %dx%d: %dx%d, line %d, size %d\n", &numbers);
 }
 
-// Between two sizes, half way between two, one more than that, and both ends of what can be asked for.
+// Between two sizes, half way between two, and both ends of what can be asked for.
 pub(crate) fn negotiated(s: &[u8; 324], alignment: u32) {
     negotiate(s, alignment, 300, 225);
     negotiate(s, alignment, 296, 121);
-    negotiate(s, alignment, 297, 122);
-    negotiate(s, alignment, 0, 0);
-    negotiate(s, alignment, 4294967295, 4294967295);
+    negotiate(s, alignment, 4294967295, 0);
 }
 
 pub(crate) fn cropped(s: &[u8; 324]) {

@@ -16,7 +16,7 @@ pub fn oldest_outgoing(s: &Words) -> Oldest
     if stream_words::holding(s) == 0 {
         return Oldest::Empty;
     }
-    Oldest::Frame(stream_words::frame(s, 0))
+    Oldest::Frame(stream_frames::frame(s, 0))
 }
 
 // The buffer that has waited longest for a frame, if there is one.

@@ -56,7 +56,7 @@ pub fn standing_of(s: &Words, k: u32) -> Standing
 {
     let i = find(s, k);
     if i < stream_words::holding(s) {
-        return Standing::Outgoing(stream_words::frame(s, i));
+        return Standing::Outgoing(stream_frames::frame(s, i));
     }
     if i < stream_words::lined(s) {
         return Standing::Incoming;

@@ -1,7 +1,7 @@
 // The words of a stream, and the line of buffers that stands in them: its front part holds frames, the rest waits for one. All numbers of a
 // stream stand in one array, `Words`, that the caller lends, so that a call changes it in place and moves nothing. Every value is answered.
 ghost use mathlib.Core.Path.{_≡_};
-ghost use Rattle.stream_words.specs.Words.{low, timeOf, linedIn, holdingIn, placeIn, indexIn, frameIn};
+ghost use Rattle.stream_words.specs.Words.{low, linedIn, holdingIn, placeIn, indexIn};
 
 // When a frame was taken. It goes from function to function whole: a signed number in a struct needs no proof that it fits.
 #[repr(C)]
@@ -87,16 +87,6 @@ pub fn low(n: u64) -> u32
     (n % 4294967296) as u32
 }
 
-// A time from the 32 bits of each of its numbers.
-pub fn time_of(seconds: u32, microseconds: u32) -> Time
-    ensures { λ r. ⌜ r ≡ timeOf seconds microseconds ⌝ }
-{
-    Time {
-        seconds: wire_signed::as_signed(seconds),
-        microseconds: wire_signed::as_signed(microseconds),
-    }
-}
-
 // How many buffers stand in the line.
 pub fn lined(s: &Words) -> u64
     ensures { λ r. ⌜ r ≡ linedIn (now (s .entry)) ⌝ }
@@ -127,19 +117,4 @@ pub fn index(s: &Words, i: u64) -> u32
 {
     let p = place(s, i);
     low(s[INDEX + p])
-}
-
-// The frame in it.
-pub fn frame(s: &Words, i: u64) -> Filled
-    ensures { λ r. ⌜ r ≡ frameIn (now (s .entry)) i ⌝ }
-{
-    let index = index(s, i);
-    let p = place(s, i);
-    let time = time_of(low(s[SECONDS + p]), low(s[MICROSECONDS + p]));
-    Filled {
-        index,
-        number: low(s[NUMBER + p]),
-        used: low(s[USED + p]),
-        time,
-    }
 }

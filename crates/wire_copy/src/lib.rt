@@ -1,10 +1,8 @@
-// Bytes copied between lent slices, as far as both reach; and four words in a row.
+// Bytes copied between lent slices, as far as both reach.
 ghost use mathlib.Core.Path.{_≡_};
 ghost use Prim.Native.Nat.{_+_, _≤_, min, _<_};
-ghost use lib.Dec.{leb};
 ghost use lib.ListN.{length, take, drop};
 ghost use lib.Seq.{sets};
-ghost use Rattle.wire_read.specs.Words.{fourWords};
 
 fn least(a: usize, b: usize) -> usize
     ensures { λ r. ⌜ r ≡ min a b ⌝ }
@@ -54,55 +52,14 @@ pub fn put_bytes(dst: &mut [u8], at: usize, src: &[u8])
     }
 }
 
-// Whether n bytes from a place on lie within a length.
-fn within(length: usize, at: usize, n: usize) -> bool
-    ensures { λ r. ⌜ r ≡ leb (at + n) length ⌝ }
-{
-    if length < n {
-        return false;
-    }
-    at <= length - n
-}
-
 // n bytes of src from a place on, or as many of them as there are, stored in dst from a place on. Two paths, for speed: where all of them are there and
 // have room, a number that the caller gives as a constant is still one when they are copied, and a short copy then needs no call.
 pub fn put_part(dst: &mut [u8], at: usize, src: &[u8], from: usize, n: usize)
     ensures { λ _. ⌜ now (dst .exit) ≡ sets (now (dst .entry)) at (take n (drop from (now (src .entry)))) ⌝ }
 {
-    if within(dst.len(), at, n) & within(src.len(), from, n) & (n <= 65536) {
+    if wire_four::within(dst.len(), at, n) & wire_four::within(src.len(), from, n) & (n <= 65536) {
         copy_block(dst, at, src, from, n);
         return;
     }
     put_bytes(dst, at, wire_read::part(src, from, n));
-}
-
-// Four words in a row, some of which may lie past the end: a test for each.
-fn four_cut(s: &[u8], at: usize) -> [u32; 4]
-    ensures { λ r. ⌜ r ≡ fourWords (now (s .entry)) at ⌝ }
-{
-    let b = wire_read::part(s, at, 16);
-    [
-        wire_read::word_at(b, 0),
-        wire_read::word_at(b, 4),
-        wire_read::word_at(b, 8),
-        wire_read::word_at(b, 12),
-    ]
-}
-
-// Four words in a row. Two paths, for speed: where all are there they are read in a part of 16 bytes, which the compiler knows to be so long, so that
-// one test serves all four.
-pub fn four_words(s: &[u8], at: usize) -> [u32; 4]
-    ensures { λ r. ⌜ r ≡ fourWords (now (s .entry)) at ⌝ }
-{
-    if within(s.len(), at, 16) {
-        let end = at + 16;
-        let b = &s[at..end];
-        return [
-            wire_read::word_at(b, 0),
-            wire_read::word_at(b, 4),
-            wire_read::word_at(b, 8),
-            wire_read::word_at(b, 12),
-        ];
-    }
-    four_cut(s, at)
 }

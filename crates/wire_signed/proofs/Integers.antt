@@ -5,13 +5,14 @@ use mathlib.Core.Path.{_≡_, refl, sym, ap, _∙_}
 use mathlib.Core.Bool.{Bool, true, false, cond, false≢true}
 use native.Mathlib.Omega.{arith}
 use native.Mathlib.Nat.{zero-add}
-use borrow.Author.Tests.{ltb-true, ltb-false, le-ltb, lt-ltb, leb-true, leb-false, le-leb, lt-leb}
+use borrow.Author.Tests.{ltb-true, ltb-false, le-ltb, lt-ltb, leb-true, le-leb, lt-leb}
 use lib.Dec.{ltb, leb}
 use lib.IntN.{ℤ, pos, negsuc, negℤ, _+ℤ_, _-ℤ_, subℕ}
 use lib.Signed.{mag, ltZ, leZ}
 use mir.Syntax.{w32}
 use mir.Val.{toZ, ofZ}
 use mir.Facts.{toZ-ofZ, ofZ-toZ, toZ-neg, toZ-pos, sfits-toZ}
+use Rattle.wire_read.proofs.Tests.{same-leb}
 use Rattle.wire_signed.specs.Signed.{signed, bits, above, distance}
 
 -- ---- there and back
@@ -85,14 +86,6 @@ under-fits (negsuc n) h = omega arith
 
 pub word-under : (w : ℕ) → w < 2 ^ 32 → under (signed w) ≤ 2147483648
 word-under w h = under-fits (signed w) (signed-fits w h)
-
--- two tests with the same outcome
-pub same-leb : (a b c d : ℕ) → (a ≤ b → c ≤ d) → (b < a → d < c) → leb a b ≡ leb c d
-same-leb a b c d f g = by (leb a b) refl
-  where
-    by : (t : Bool) → leb a b ≡ t → t ≡ leb c d
-    by true e = sym (le-leb c d (f (leb-true a b e)))
-    by false e = sym (lt-leb c d (g (leb-false a b e)))
 
 -- the order of two numbers is that of their counts
 pub above-order : (k : ℕ) (x y : ℤ) → under x ≤ k → under y ≤ k → leZ x y ≡ leb (above k x) (above k y)

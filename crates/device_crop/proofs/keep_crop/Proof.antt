@@ -3,7 +3,7 @@ use mathlib.Core.Path.{_≡_}
 use lib.ListN.{length}
 use Rattle.wire_signed.specs.Signed.{signed}
 use Rattle.wire_signed.proofs.Integers.{bits-back}
-use Rattle.device_setup.proofs.Words.{crop-set}
+use Rattle.device_state.proofs.Stores.{crop-set}
 use borrow.Author.Needs.{needs}
 use Rattle.device_crop.proofs.keep_crop.Statement.{statement}
 use Rattle.device_crop.proofs.keep_crop.Tie as tie

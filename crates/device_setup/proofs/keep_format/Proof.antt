@@ -1,7 +1,7 @@
 -- Five stores, by `format-set`. Assumes nothing.
 use mathlib.Core.Path.{_≡_}
 use lib.ListN.{length}
-use Rattle.device_setup.proofs.Words.{format-set}
+use Rattle.device_state.proofs.Stores.{format-set}
 use borrow.Author.Needs.{needs}
 use Rattle.device_setup.proofs.keep_format.Statement.{statement}
 use Rattle.device_setup.proofs.keep_format.Tie as tie
