@@ -1,5 +1,5 @@
 // What holds of our device, whatever it is asked, told from calls and answers alone. Nothing runs here: each function is named after a
-// claim, and its contract is the claim, of the machine that the definitions make which the contracts of `device_requests`, `device_opening` and `device_film` cite.
+// claim, and its contract is the claim, of the machine that the definitions make which the contracts of `device_requests`, `device_opening`, `device_film` and `device_planes` cite.
 ghost use mathlib.Core.Path.{_≡_};
 ghost use mathlib.Core.Bool.{true};
 ghost use mathlib.Core.List.{List};

@@ -64,23 +64,21 @@ module _ (s : List ℕ) (m : Kind → List ℕ) (S : Session) (d1 : Demand1 s m 
       not-false (goodSheet s) sheet
 
   module _ (cs : List Call) (w : ℕ) (a : List ℕ) (call : Negotiates (requestOf w .call)) (type : wordAt a 0 ≡ typeOf Kind.pictures) (z : S .request cs w a .number ≡ 0) where
-    -- TRY_FMT answers the nearest sizes, and S_FMT what TRY_FMT answers
-    as-tried : (requestOf w .call ≡ SFmt) → S .request cs 0xC0CC5640 a ≡ S .request cs w a
-    as-tried e = d2 .same cs 0xC0CC5640 w a is-try e (λ h. omega (arith, h, z))
-
-    pub nearest-width : Nearest (widthsOf s) (wordAt a 4) (wordAt (S .request cs w a .argument) 4)
-    nearest-width = ⊎-elim
-        (λ e. d2 .widths cs w a e type z)
-        (λ e. subst (λ (g : Given). Nearest (widthsOf s) (wordAt a 4) (wordAt (g .argument) 4)) (as-tried e)
-        (d2 .widths cs 0xC0CC5640 a is-try type (ap (λ (g : Given). g .number) (as-tried e) ∙ z)))
+    -- what holds of every accepted TRY_FMT of this argument holds of an accepted S_FMT too, which answers what TRY_FMT answers
+    as-tried : (P : Given → Type 0) → ((t : ℕ) → requestOf t .call ≡ TryFmt → S .request cs t a .number ≡ 0 → P (S .request cs t a)) → P (S .request cs w a)
+    as-tried P tried = ⊎-elim
+        (λ e. tried w e z)
+        (λ e.
+        let same : S .request cs 0xC0CC5640 a ≡ S .request cs w a = d2 .same cs 0xC0CC5640 w a is-try e (λ h. omega (arith, h, z)) in
+        subst P same (tried 0xC0CC5640 is-try (ap (λ (g : Given). g .number) same ∙ z)))
         call
+
+    -- so both answer the nearest sizes
+    pub nearest-width : Nearest (widthsOf s) (wordAt a 4) (wordAt (S .request cs w a .argument) 4)
+    nearest-width = as-tried (λ g. Nearest (widthsOf s) (wordAt a 4) (wordAt (g .argument) 4)) (λ t e y. d2 .widths cs t a e type y)
 
     pub nearest-height : Nearest (heightsOf s) (wordAt a 8) (wordAt (S .request cs w a .argument) 8)
-    nearest-height = ⊎-elim
-        (λ e. d2 .heights cs w a e type z)
-        (λ e. subst (λ (g : Given). Nearest (heightsOf s) (wordAt a 8) (wordAt (g .argument) 8)) (as-tried e)
-        (d2 .heights cs 0xC0CC5640 a is-try type (ap (λ (g : Given). g .number) (as-tried e) ∙ z)))
-        call
+    nearest-height = as-tried (λ g. Nearest (heightsOf s) (wordAt a 8) (wordAt (g .argument) 8)) (λ t e y. d2 .heights cs t a e type y)
 
   -- what S_FMT gives, by the opening, the length and the type of its argument, and the buffers that there are
   abbrev setNumber : ℕ → ℕ → ℕ → ℕ → ℕ

@@ -11,27 +11,21 @@ use Rattle.wire_copy.proofs.copy_block.Reads as reads
 use Rattle.wire_copy.proofs.copy_block.Lts as lts
 use Rattle.wire_copy.proofs.copy.Reads as copy-reads
 
--- src/write.rt:36:10
 slice-aggregate-copy : tie.Need-slice-aggregate-copy
 slice-aggregate-copy c = search needs
 
--- src/write.rt:36:5
 copy-requires : tie.Need-copy-requires
 copy-requires c κs = search needs
 
--- src/write.rt:37:19
 slice-aggregate-copy-2 : tie.Need-slice-aggregate-copy-2
 slice-aggregate-copy-2 c = search needs
 
--- src/write.rt:37:5
 copy-requires-2 : tie.Need-copy-requires-2
 copy-requires-2 c κs = search needs
 
--- src/write.rt:29:1
 same-length : tie.Need-same-length
 same-length c = search needs
 
--- src/write.rt:29:1
 returns : tie.Need-returns
 returns c =
     let d = c .before .before .before .before .before .before in
