@@ -4,6 +4,7 @@ use crate::judge::{Judged, JUDGED};
 use crate::model::bytes::word;
 use crate::model::words::{type_at, ALL, S_FMT, TRY_FMT};
 use crate::recorder::{Arrived, CAPTIONS, PICTURES, STREAMS};
+use crate::tops::{Top, TOPS};
 use crate::walk::{Asked, ASKED};
 use std::fmt;
 
@@ -79,6 +80,8 @@ pub struct Coverage {
     judged: [u64; JUDGED.len()],
     /// Where the sizes lay that accepted calls asked for.
     asked: [[u64; ASKED.len()]; SIZING.len()],
+    /// Where the tops lay that the crops told by G_CROP were made of.
+    tops: [u64; TOPS.len()],
     /// Numbers, answers and verdicts that no rule knows.
     strange: u64,
 }
@@ -155,6 +158,13 @@ impl Coverage {
         }
     }
 
+    /// The top that a crop was made of, which an accepted G_CROP tells.
+    pub fn top(&mut self, top: Top) {
+        for ((known, _), count) in TOPS.iter().zip(&mut self.tops) {
+            *count += u64::from(*known == top);
+        }
+    }
+
     pub fn plane(&mut self, number: u32) {
         Coverage::count(&mut self.planes, &mut self.strange, number);
     }
@@ -217,6 +227,7 @@ impl Coverage {
         for ((_, call), counts) in SIZING.iter().zip(self.asked) {
             lists.push((format!("{call}, sizes asked"), ASKED.iter().map(|(_, name)| *name).zip(counts).collect()));
         }
+        lists.push(("G_CROP, tops".into(), TOPS.iter().map(|(_, name)| *name).zip(self.tops).collect()));
         lists
     }
 

@@ -3,6 +3,7 @@
 use crate::model::buffers::Stream;
 use crate::model::bytes::{half, put, put_half, put_signed, signed, word};
 use crate::model::control::NEXT;
+use crate::model::crop::Rectangle;
 use crate::model::services::{Lines, RECORD, SERVICES};
 use crate::model::words::*;
 use crate::model::{Device, LONGEST_MEMORY};
@@ -18,6 +19,11 @@ pub enum Fault {
     NearestFromAbove,
     TieToLargerValue,
     LeftRaisedToZero,
+    TopNotRounded,
+    TopRoundedUp,
+    TopRoundedFirst,
+    TopItselfRounded,
+    OpeningTopNotRounded,
     DamagedNotNumbered,
     OneMoreByteWritten,
     RefusalWritesArgument,
@@ -50,7 +56,7 @@ pub enum Fault {
     CaptionOrderAsked,
 }
 
-pub const FAULTS: [Fault; 38] = [
+pub const FAULTS: [Fault; 43] = [
     Fault::NewestOutgoingFirst,
     Fault::VerdictConstant,
     Fault::FailedDequeueCounted,
@@ -59,6 +65,11 @@ pub const FAULTS: [Fault; 38] = [
     Fault::NearestFromAbove,
     Fault::TieToLargerValue,
     Fault::LeftRaisedToZero,
+    Fault::TopNotRounded,
+    Fault::TopRoundedUp,
+    Fault::TopRoundedFirst,
+    Fault::TopItselfRounded,
+    Fault::OpeningTopNotRounded,
     Fault::DamagedNotNumbered,
     Fault::OneMoreByteWritten,
     Fault::RefusalWritesArgument,
@@ -169,9 +180,26 @@ impl Faulty {
             }
             (Fault::RefusalWritesArgument, _, 22) if argument.len() > 60 => argument[60] = 0,
             (Fault::ReservedNotZero, G_FMT, 0) => argument[203] = 1,
+            (_, S_CROP, 0) => self.after_crop(&Rectangle::read(argument, 4)),
             (_, _, 0) if kind == CAPTIONS => self.after_captions(request, argument),
             _ => {}
         }
+    }
+
+    /// The same for an accepted S_CROP, by what it wished for.
+    fn after_crop(&mut self, wish: &Rectangle) {
+        let Some(opened) = self.device.opened_mut() else { return };
+        let (bounds, inside) = (opened.sheet.bounds, wish.inside(&opened.sheet.bounds));
+        opened.crop = match self.fault {
+            Fault::TopNotRounded => inside,
+            Fault::TopRoundedUp => Rectangle { top: inside.top + (inside.top - bounds.top) % 2, ..inside },
+            Fault::TopRoundedFirst => {
+                let odd = (wish.top as i64 - bounds.top as i64).rem_euclid(2) as i32;
+                Rectangle { top: wish.top.saturating_sub(odd), ..*wish }.inside(&bounds)
+            }
+            Fault::TopItselfRounded => Rectangle { top: inside.top - inside.top.rem_euclid(2), ..inside },
+            _ => opened.crop,
+        };
     }
 
     /// The same for an accepted request about captions.
@@ -246,7 +274,12 @@ impl Recorder for Faulty {
     fn open(&mut self, sheet: &[u8], [pictures, captions]: [u64; 2]) -> u32 {
         self.ever = Lines::default();
         let unchecked = self.fault == Fault::CaptionLengthUnchecked;
-        self.device.open(sheet, [pictures, if unchecked { captions.min(LONGEST_MEMORY) } else { captions }])
+        let number =
+            self.device.open(sheet, [pictures, if unchecked { captions.min(LONGEST_MEMORY) } else { captions }]);
+        if let Some(opened) = self.device.opened_mut().filter(|_| self.fault == Fault::OpeningTopNotRounded) {
+            opened.crop = opened.sheet.default;
+        }
+        number
     }
 
     fn request(&mut self, request: u32, argument: &mut [u8]) -> u32 {

@@ -16,6 +16,7 @@ pub mod runner;
 pub mod session;
 pub mod show;
 pub mod shrink;
+pub mod tops;
 pub mod trace;
 pub mod walk;
 

@@ -5,11 +5,12 @@ use crate::coverage::{Coverage, Stream};
 use crate::fields;
 use crate::guarded::Guarded;
 use crate::judge::{judge, Judged};
-use crate::model::bytes::word;
-use crate::model::words::{size, DQBUF, G_FMT, QUERYBUF, S_FMT, TRY_FMT};
+use crate::model::bytes::{signed, word};
+use crate::model::words::{size, DQBUF, G_CROP, G_FMT, QUERYBUF, S_CROP, S_FMT, TRY_FMT};
 use crate::random;
 use crate::recorder::{Recorder, BLANK, CAPTIONS, DAMAGED, IGNORED, PICTURES, REFUSED, RUNNING, STREAMS};
 use crate::session::{made_length, Arrival, Lent, Session, Step};
+use crate::tops::Lines;
 use crate::walk::Grid;
 use std::fmt::Debug;
 
@@ -44,6 +45,8 @@ pub struct Runner {
     ever: Vec<u8>,
     /// The widths and heights of the sheet that was opened last.
     grids: [Grid; 2],
+    /// The lines of its bounds, and what the crop was made of.
+    lines: Lines,
     /// What the tested device kept before and after a call.
     before: Vec<u8>,
     after: Vec<u8>,
@@ -89,6 +92,7 @@ impl Runner {
                 self.ever = vec![0; size(S_FMT)];
                 if number == 0 {
                     self.grids = Grid::both(sheet);
+                    self.lines = Lines::of(sheet);
                 }
                 Ok(())
             }
@@ -105,6 +109,11 @@ impl Runner {
                 }
                 match *word {
                     S_FMT | TRY_FMT if number == 0 => self.walked(*word, argument, coverage),
+                    S_CROP if number == 0 => {
+                        self.lines.set(argument);
+                        Ok(())
+                    }
+                    G_CROP if number == 0 => self.line_walked(coverage),
                     _ => Ok(()),
                 }
             }
@@ -128,6 +137,13 @@ impl Runner {
             same("size walked to", &grid.walk(asked), &word(self.expected.argument.body(), at))?;
         }
         Ok(())
+    }
+
+    /// An accepted G_CROP answers the top that a walk of the lines gives.
+    fn line_walked(&self, coverage: &mut Coverage) -> Result<(), Difference> {
+        let [top, height] = [8, 16].map(|at| signed(self.expected.argument.body(), at));
+        coverage.top(self.lines.place(height));
+        same("top walked to", &self.lines.walk(height), &top)
     }
 
     /// The sheet is only lent: it must come back as it was, and is overwritten right after.

@@ -17,8 +17,12 @@ struct Bench<R> {
 }
 
 impl<R: Recorder> Bench<R> {
-    fn new(mut device: R) -> Bench<R> {
-        assert_eq!(device.open(&Draft::bench().bytes(), [MEMORY as u64, 0]), 0);
+    fn new(device: R) -> Bench<R> {
+        Bench::of(device, &Draft::bench())
+    }
+
+    fn of(mut device: R, sheet: &Draft) -> Bench<R> {
+        assert_eq!(device.open(&sheet.bytes(), [MEMORY as u64, 0]), 0);
         Bench { device, memory: vec![0; MEMORY] }
     }
 
@@ -57,6 +61,12 @@ impl<R: Recorder> Bench<R> {
         (signed(&kept, 4), signed(&kept, 12))
     }
 
+    /// The top that is kept of a crop 640 wide and 300 high.
+    fn top(&mut self, top: i32) -> i32 {
+        self.done(S_CROP, &[(0, 1), (4, -8i32 as u32), (8, top as u32), (12, 640), (16, 300)]);
+        signed(&self.done(G_CROP, &[(0, 1)]), 8)
+    }
+
     fn arrive(&mut self, length: usize, fill: u8) -> Arrived {
         self.device.arrival(PICTURES, &mut self.memory, &vec![fill; length], 7, 8)
     }
@@ -67,6 +77,8 @@ fn figures<R: Recorder>(make: impl Fn() -> R) {
     packed(Bench::new(make()));
     planar(Bench::new(make()));
     crops(Bench::new(make()));
+    let odd = Draft { bounds: [-8, -7, 640, 400], default: [-8, -6, 640, 399], ..Draft::bench() };
+    odd_tops(Bench::of(make(), &odd));
     contrast(Bench::new(make()));
     verdicts(Bench::new(make()));
     numbers(Bench::new(make()));
@@ -130,6 +142,16 @@ fn crops<R: Recorder>(mut bench: Bench<R>) {
     assert_eq!(bench.crop(i32::MIN, 608), (-8, 608));
     assert_eq!(bench.crop(-5, 608), (-5, 608));
     assert_eq!(bench.crop(0, 0).1, 1);
+    assert_eq!([0, 1, 31].map(|top| bench.top(top)), [0, 0, 30]);
+}
+
+/// Bounds from top -7, and a default that begins a line below it: CROPCAP tells it, and after opening G_CROP tells it rounded.
+fn odd_tops<R: Recorder>(mut bench: Bench<R>) {
+    let limits = bench.done(CROPCAP, &[(0, 1)]);
+    assert_eq!([8, 24, 32].map(|at| signed(&limits, at)), [-7, -6, 399]);
+    let crop = bench.done(G_CROP, &[(0, 1)]);
+    assert_eq!([4, 8, 12, 16].map(|at| signed(&crop, at)), [-8, -7, 640, 399]);
+    assert_eq!([-7, -6, -5, 24, -32_768].map(|top| bench.top(top)), [-7, -7, -5, 23, -7]);
 }
 
 fn contrast<R: Recorder>(mut bench: Bench<R>) {

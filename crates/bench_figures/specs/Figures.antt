@@ -1,4 +1,4 @@
--- The figures of the bench: one table, each row computed from the bench sheet by the definitions that the contracts cite.
+-- The figures of the bench: one table, each row computed from a bench sheet by the definitions that the contracts cite.
 use Prim.Native.Nat.{ℕ}
 use mathlib.Core.List.{List, [], _∷_}
 use lib.IntN.{ℤ, pos, negℤ}
@@ -25,7 +25,7 @@ use Rattle.plane_rules.specs.Planes.{planeStart}
 use Rattle.grid_rules.specs.Grid.{sizesOf, walkSizes}
 use Rattle.crop_rules.specs.Crop.{clamped}
 use Rattle.control_calls.specs.Controls.{sCtrlOf}
-use Rattle.bench_sheet.specs.Bench.{benchSheet, benchMemory}
+use Rattle.bench_sheet.specs.Bench.{benchSheet, oddSheet, benchMemory}
 
 -- what the definitions compute, and what the device is to say
 pub record Figure : Type 0 where
@@ -84,6 +84,24 @@ io set = ioSize (negotiatedLines set [])
 unfoldable pub opened : State
 opened = openedOf benchSheet benchMemory captionMemory .device .state
 
+-- the one of the sheet with odd tops
+unfoldable pub oddOpened : State
+oddOpened = openedOf oddSheet benchMemory captionMemory .device .state
+
+-- ---- tops
+
+-- the number at a place of what CROPCAP answers
+abbrev limitAt : List ℕ → State → ℕ → ℤ
+limitAt s d at = signedAt (requestAnswer (keptOf s) d 0xC02C563A (bytesOf (1 ∷ replicate 10 0)) .argument) at
+
+-- the top that G_CROP answers
+abbrev toldTop : List ℕ → State → ℤ
+toldTop s d = signedAt (requestAnswer (keptOf s) d 0xC014563B (bytesOf (1 ∷ replicate 4 0)) .argument) 8
+
+-- the same after an S_CROP of 640x300 at left -8 and this top
+abbrev topAfter : List ℕ → State → ℤ → ℤ
+topAfter s d top = toldTop s (requestAnswer (keptOf s) d 0x4014563C (bytesOf (1 ∷ bits (minus 8) ∷ bits top ∷ 640 ∷ 300 ∷ [])) .state)
+
 -- ---- sizes
 
 -- the word at a place of what a request for a format of this width and height answers
@@ -138,9 +156,9 @@ ranEmpty d =
 
 -- ---- the table
 
--- by the state of the opened device
-unfoldable pub figuresOf : State → List Figure
-figuresOf d =
+-- by the state of the opened device, and that of the one with odd tops
+unfoldable pub figuresOf : State → State → List Figure
+figuresOf d o =
     -- widths 160, 176, .. 640: one between two, half way and one more, at the first two, in the middle and at the last two
     triedWidth d 300 gives pos 304
     ∷ triedWidth d 168 gives pos 160
@@ -190,6 +208,20 @@ figuresOf d =
     ∷ taken (across (pos 100) (pos 608)) .left gives pos 24
     ∷ taken (across (minus 2147483648) (pos 608)) .left gives minus 8
     ∷ taken (across (cropDefault benchSheet .left) (pos 0)) .width gives pos 1
+    -- tops 0, 1 and 31 lines below the bounds' top, 0
+    ∷ topAfter benchSheet d (pos 0) gives pos 0
+    ∷ topAfter benchSheet d (pos 1) gives pos 0
+    ∷ topAfter benchSheet d (pos 31) gives pos 30
+    -- the bounds' top -7 and the default's -6: CROPCAP tells both, and after opening G_CROP tells the default with its top rounded
+    ∷ limitAt oddSheet o 8 gives minus 7
+    ∷ limitAt oddSheet o 24 gives minus 6
+    ∷ toldTop oddSheet o gives minus 7
+    -- 0, 1, 2 and 31 lines below -7, and far above it
+    ∷ topAfter oddSheet o (minus 7) gives minus 7
+    ∷ topAfter oddSheet o (minus 6) gives minus 7
+    ∷ topAfter oddSheet o (minus 5) gives minus 5
+    ∷ topAfter oddSheet o (pos 24) gives pos 23
+    ∷ topAfter oddSheet o (minus 32768) gives minus 7
     -- contrast: the nearest value, the one nearer the minimum of two that are as near
     ∷ contrast d (minus 8) gives minus 10
     ∷ contrast d (pos 0) gives minus 2
@@ -216,4 +248,4 @@ figuresOf d =
     ∷ []
 
 unfoldable pub figures : List Figure
-figures = figuresOf opened
+figures = figuresOf opened oddOpened

@@ -1,8 +1,8 @@
-// The bench: a small good sheet and the length of a picture memory, for examples and runs of every layer.
+// The bench: a small good sheet, the same with odd tops, and the length of a picture memory, for examples and runs of every layer.
 ghost use mathlib.Core.Path.{_≡_};
 ghost use mathlib.Core.Bool.{true};
 ghost use Rattle.sheet_rules.specs.Rules.{goodSheet};
-ghost use Rattle.bench_sheet.specs.Bench.{benchSheet, benchMemory};
+ghost use Rattle.bench_sheet.specs.Bench.{benchSheet, oddSheet, benchMemory};
 
 // A line for each field or row of words: contents, identity, two formats, geometry, one control.
 const SHEET: [u8; 324] = *b"\
@@ -33,6 +33,17 @@ pub fn sheet() -> Bytes
     ensures { λ r. ⌜ (r ≡ benchSheet) × (goodSheet benchSheet ≡ true) ⌝ }
 {
     SHEET
+}
+
+// The same with odd tops: the bounds from -7, and a default that begins a line further down. This one keeps every rule, too.
+pub fn odd_sheet() -> Bytes
+    ensures { λ r. ⌜ (r ≡ oddSheet) × (goodSheet oddSheet ≡ true) ⌝ }
+{
+    let mut bytes = SHEET;
+    wire_store::put_word(&mut bytes, 220, 0xffff_fff9);
+    wire_store::put_word(&mut bytes, 236, 0xffff_fffa);
+    wire_store::put_word(&mut bytes, 244, 399);
+    bytes
 }
 
 // The length of the picture memory.

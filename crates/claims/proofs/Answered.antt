@@ -33,7 +33,7 @@ use Rattle.negotiation_rules.specs.Negotiation.{openingFormat, negotiated, aske
 use Rattle.negotiation_rules.specs.Answer.{formatReply}
 use Rattle.negotiation_rules.proofs.Reply.{reply-length}
 use Rattle.plane_rules.specs.Planes.{noPlace, planeOf}
-use Rattle.crop_rules.specs.Crop.{clamped}
+use Rattle.crop_rules.specs.Crop.{clamped, openingCrop}
 use Rattle.control_place_rules.specs.Find.{present, placeOf, queriedPlace}
 use Rattle.control_value_rules.specs.Values.{defaultValues, openingValues, readingAt, reading, rangedAt, settingAt, settingOf}
 use Rattle.control_value_rules.specs.declared.Reading.{Reading}
@@ -148,9 +148,17 @@ module _ (s : List ℕ) (good : goodSheet s ≡ true) where
 
   -- and opening sets the desk by it
   opening-desk : (n m : ℕ) → deskOf (openingState (keptOf s) n m) ≡ openingDesk s
-  unfolding openingState openingFormat openingValues
+  unfolding openingState openingFormat openingCrop openingValues
   opening-desk n m =
-      rw (kept-widths s (short s good), kept-heights s (short s good), kept-code s (short s good) 0, kept-default s (short s good), kept-present s (short s good), kept-defaults (present s))
+      rw (
+        kept-widths s (short s good),
+        kept-heights s (short s good),
+        kept-code s (short s good) 0,
+        kept-bounds s (short s good),
+        kept-default s (short s good),
+        kept-present s (short s good),
+        kept-defaults (present s),
+      )
 
 -- ---- a stream's queues
 

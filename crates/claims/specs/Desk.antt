@@ -9,12 +9,12 @@ use Rattle.wire_signed.specs.Signed.{signed, bits}
 use Rattle.ioctl_table.specs.Table.{requestOf}
 use Rattle.ioctl_table.specs.declared.table.Call.{Call as Asked}
 use Rattle.ioctl_table.specs.declared.table.Call.the-variants.{Unknown, Querycap, EnumFmt, GFmt, SFmt, TryFmt, Reqbufs, Querybuf, Qbuf, Dqbuf, Streamon, Streamoff, GCtrl, SCtrl, Queryctrl, Cropcap, GCrop, SCrop, GSlicedVbiCap}
-use Rattle.sheet_geometry.specs.Geometry.{cropBounds, cropDefault}
+use Rattle.sheet_geometry.specs.Geometry.{cropBounds}
 use Rattle.sheet_geometry.specs.declared.Rect.{Rect}
 use Rattle.format_rules.specs.declared.Format.{Format}
 use Rattle.grid_rules.specs.Grid.{nearestValue}
 use Rattle.negotiation_rules.specs.Negotiation.{openingFormat, negotiated, askedFormat}
-use Rattle.crop_rules.specs.Crop.{clamped}
+use Rattle.crop_rules.specs.Crop.{clamped, openingCrop}
 use Rattle.control_place_rules.specs.Find.{placeOf}
 use Rattle.control_value_rules.specs.Values.{openingValues}
 use Rattle.crop_calls.specs.Crops.{askedCrop}
@@ -33,9 +33,9 @@ pub record Desk : Type 0 where
   pub values : List ℕ
   pub services : List ℕ
 
--- as opening sets them: the first format and the greatest size, the default crop, the default values, no services
+-- as opening sets them: the first format and the greatest size, the default crop with its top at an even distance, the default values, no services
 abbrev pub openingDesk : List ℕ → Desk
-openingDesk s = record { format = openingFormat s; crop = cropDefault s; values = openingValues s; services = noServices }
+openingDesk s = record { format = openingFormat s; crop = openingCrop s; values = openingValues s; services = noServices }
 
 -- the value that the control takes which the argument names: the nearest of its grid
 abbrev pub valueOn : List ℕ → List ℕ → ℕ

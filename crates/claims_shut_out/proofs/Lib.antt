@@ -6,4 +6,5 @@ pub mod Complete
 pub mod Streams
 pub mod Captions
 pub mod Sizes
+pub mod Crops
 pub mod Instances

@@ -32,7 +32,7 @@ pub greatest-missed : Out GreatestMissed
 unfolding apart
 greatest-missed M (s, m, cs, w, a, (call, type, z), asked, less) meets =
     let n = nearest-width s m (M s m) (meets .demand-1 s m) (meets .demand-2 s m) cs w a call type z in
-    let g : Sizes (widthsOf s) = geometry s (good s m (M s m) (meets .demand-1 s m) (meets .demand-2 s m) cs w a z) .widths in
+    let g : Sizes (widthsOf s) = geometry s (good s m (M s m) (meets .demand-1 s m) cs w a z) .widths in
     omega (arith, asked, less, g .whole, n .near (g .steps) (omega (arith, g .whole)))
 
 pub from-above : Out FromAbove

@@ -6,14 +6,16 @@ use mathlib.Core.Bool.{true, false}
 use mathlib.Core.List.{List, [], _∷_, _++_}
 use lib.ListN.{length}
 use lib.IntN.{pos}
-use lib.Signed.{ltZ}
+use lib.Signed.{leZ, ltZ}
 use Rattle.wire_read.specs.Words.{wordAt, bytesOf}
-use Rattle.wire_signed.specs.Signed.{signedAt}
+use Rattle.wire_signed.specs.Signed.{signedAt, distance}
 use Rattle.ioctl_table.specs.Table.{requestOf}
 use Rattle.ioctl_table.specs.declared.table.Call.{Call as Asked}
 use Rattle.ioctl_table.specs.declared.table.Call.the-variants.{Unknown, SFmt, TryFmt, Reqbufs, Qbuf, Dqbuf, GCrop, SCrop}
 use Rattle.sheet_geometry.specs.Geometry.{widthsOf}
+use Rattle.sheet_rules.specs.Rules.{defaultOk}
 use Rattle.grid_rules.specs.Grid.{apart, sizeAt}
+use Rattle.crop_calls.specs.Crops.{askedCrop}
 use Rattle.stream_words.specs.Stream.{Run}
 use Rattle.stream_arrival.specs.declared.Arrival.the-variants.{Stored}
 use Rattle.caption_rules.specs.Caption.{placeAt}
@@ -26,6 +28,7 @@ use Rattle.claims.specs.Words.{paperIn}
 use Rattle.claims.specs.Table.{arrivalNumber}
 use Rattle.claims_together.specs.Waiting.{Starts, Ends, InForce}
 use Rattle.claims_together.specs.Sizes.{Negotiates}
+use Rattle.claims_together.specs.Crops.{CropTold, cropIn, boundsIn}
 use Rattle.claims_together.specs.Meets.{Meets}
 
 -- the argument of S_CROP with left 0 for its left
@@ -143,6 +146,18 @@ module _ (M : Machine) where
       × (sizeAt (widthsOf s) k ≤ wordAt a 4) × (wordAt a 4 ≤ wordAt (M s m .request cs w a .argument) 4) × (wordAt (M s m .request cs w a .argument) 4 ≤ widthsOf s .greatest)
       × (apart (sizeAt (widthsOf s) k) (wordAt a 4) < apart (wordAt (M s m .request cs w a .argument) 4) (wordAt a 4))
 
+  -- ---- of the crop
+
+  -- some G_CROP tells a top at an odd distance from the top of the bounds that CROPCAP tells
+  abbrev pub FieldsMixed : Type 0
+  FieldsMixed = (s : List ℕ) × (m : Kind → List ℕ) × (cs : List Call) × (t : CropTold (M s m) cs) × (distance (boundsIn (M s m) cs t .top) (cropIn (M s m) cs t .top) % 2 ≡ 1)
+
+  -- some S_CROP asks for a rectangle inside those bounds, and G_CROP then tells a top further down
+  abbrev pub TopLowered : Type 0
+  TopLowered = (s : List ℕ) × (m : Kind → List ℕ) × (cs : List Call) × (w : ℕ) × (a : List ℕ) × (requestOf w .call ≡ SCrop) × (M s m .request cs w a .number ≡ 0)
+      × (t : CropTold (M s m) (more cs (request w a)))
+      × (defaultOk (boundsIn (M s m) (more cs (request w a)) t) (askedCrop a) ≡ true) × (leZ (cropIn (M s m) (more cs (request w a)) t .top) (askedCrop a .top) ≡ false)
+
   -- ---- of two streams
 
   -- some QBUF of captions puts its index among the pictures: one of pictures was accepted before it, and is not behind it
@@ -198,6 +213,8 @@ pub record ShutOut : Type 0 where
   pub tie-up : Out TieUp
   pub greatest-missed : Out GreatestMissed
   pub from-above : Out FromAbove
+  pub fields-mixed : Out FieldsMixed
+  pub top-lowered : Out TopLowered
   pub streams-mixed : Out StreamsMixed
   pub held-up : Out HeldUp
   pub twice-taken : Out TwiceTaken

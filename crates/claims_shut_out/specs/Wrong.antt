@@ -5,15 +5,19 @@ use mathlib.Core.List.{List, [], _∷_, map}
 use lib.Dec.{eqb}
 use lib.ListN.{replicate, take, drop}
 use lib.Seq.{sets}
-use lib.IntN.{pos}
+use lib.IntN.{ℤ, pos, _+ℤ_, _-ℤ_}
 use lib.Signed.{ltZ}
 use Rattle.wire_read.specs.Words.{wordAt, bytesOf}
-use Rattle.wire_signed.specs.Signed.{signedAt}
+use Rattle.wire_signed.specs.Signed.{signedAt, distance}
 use Rattle.ioctl_table.specs.Table.{requestOf}
 use Rattle.ioctl_table.specs.declared.table.Call.{Call as Asked}
 use Rattle.ioctl_table.specs.declared.table.Call.the-variants.{Unknown, Querycap, EnumFmt, GFmt, SFmt, TryFmt, Reqbufs, Querybuf, Qbuf, Dqbuf, Streamon, Streamoff, GCtrl, SCtrl, Queryctrl, Cropcap, GCrop, SCrop, GSlicedVbiCap}
-use Rattle.sheet_geometry.specs.Geometry.{widthsOf}
+use Rattle.sheet_geometry.specs.Geometry.{widthsOf, cropBounds, cropDefault}
 use Rattle.sheet_geometry.specs.declared.Range.{Range}
+use Rattle.sheet_geometry.specs.declared.Rect.{Rect}
+use Rattle.crop_rules.specs.Crop.{clampedPlace, fieldsApart, widthIn, heightIn, leftIn, clampedTop, clamped}
+use Rattle.crop_replies.specs.Replies.{cropReply}
+use Rattle.crop_calls.specs.Crops.{askedCrop}
 use Rattle.stream_slots.specs.Slot.{slotOffset}
 use Rattle.wire_read.specs.Lists.{any}
 use Rattle.stream_words.specs.Stream.{Run}
@@ -29,7 +33,7 @@ use Rattle.claims.specs.Machine.{Session, Machine, Given, more}
 use Rattle.claims.specs.Words.{paperIn}
 use Rattle.claims_together.specs.Meets.{Meets}
 use Rattle.claims.specs.Device.{machineOf, ourDevice}
-use Rattle.claims_shut_out.specs.Faults.{leftZero, NeverOpens, AllRefusing, GrantsNone, GrantsFewer, ConstantVerdict, AlwaysComplete, NeverComplete, IdleArrival, LaterPretend, InventedTotals, TryEchoes, OddRefused, LeftRaised, FailedCounted, StoredNumbered, YoungestFirst, SoonWhenStopped, NeverSoon, UnknownInvalid, TieUp, GreatestMissed, FromAbove, StreamsMixed, HeldUp, TwiceTaken, AllTypes, OneVerdict}
+use Rattle.claims_shut_out.specs.Faults.{leftZero, NeverOpens, AllRefusing, GrantsNone, GrantsFewer, ConstantVerdict, AlwaysComplete, NeverComplete, IdleArrival, LaterPretend, InventedTotals, TryEchoes, OddRefused, LeftRaised, FailedCounted, StoredNumbered, YoungestFirst, SoonWhenStopped, NeverSoon, UnknownInvalid, TieUp, GreatestMissed, FromAbove, FieldsMixed, TopLowered, StreamsMixed, HeldUp, TwiceTaken, AllTypes, OneVerdict}
 
 -- our device
 abbrev pub ours : Machine
@@ -185,6 +189,57 @@ raised (arrival t f x y other) = arrival t f x y other
 
 abbrev pub leftRaised : Machine
 leftRaised s m = withRequest (ours s m) (λ cs w a. ours s m .request (map raised cs) w a)
+
+-- the crop after calls, where g says what becomes of a rectangle that S_CROP asks for
+abbrev pub cropAfter : (Rect → Rect) → Rect → List Call → Rect
+cropAfter g r [] = r
+cropAfter g r (request w a ∷ cs) = cropAfter g (cond (eqb (place (requestOf w .call)) (place SCrop)) (g (askedCrop a)) r) cs
+cropAfter g r (arrival t f x y other ∷ cs) = cropAfter g r cs
+
+-- G_CROP tells the crop by other rules: what opening makes of the default, and what S_CROP makes of a rectangle, both by the bounds
+abbrev pub cropping : (Rect → Rect → Rect) → (Rect → Rect → Rect) → Machine
+cropping first g s m =
+    let telling : List Call → List ℕ → Given → Given = λ cs a r. record { number = r .number; argument = cropReply (cropAfter (g (cropBounds s)) (first (cropBounds s) (cropDefault s)) cs) } in
+    withRequest (ours s m) (λ cs w a. only GCrop (telling cs) (requestOf w .call) a (ours s m .request cs w a))
+
+-- opening takes the default as it is
+abbrev pub asItIs : Rect → Rect → Rect
+asItIs b d = d
+
+abbrev pub openingLeftOut : Machine
+openingLeftOut = cropping asItIs clamped
+
+-- another top, and all else as it should be
+abbrev pub topBy : (Rect → Rect → ℤ) → Rect → Rect → Rect
+topBy top b a = record { left = leftIn b a; top = top b a; width = widthIn b a; height = heightIn b a }
+
+-- it is brought inside and not rounded
+abbrev pub inside : Rect → Rect → Rect
+inside = topBy clampedTop
+
+abbrev pub notRounded : Machine
+notRounded = cropping clamped inside
+
+-- it is rounded first, and then brought inside
+abbrev pub apartFirst : Rect → Rect → Rect
+apartFirst = topBy (λ b a. clampedPlace (b .top) (b .height) (heightIn b a) (fieldsApart (b .top) (a .top)))
+
+abbrev pub roundedFirst : Machine
+roundedFirst = cropping clamped apartFirst
+
+-- the top itself is made even, not its distance
+abbrev pub evenItself : Rect → Rect → Rect
+evenItself = topBy (λ b a. clampedTop b a -ℤ pos (distance (pos 0) (clampedTop b a) % 2))
+
+abbrev pub topItself : Machine
+topItself = cropping clamped evenItself
+
+-- its distance is rounded up
+abbrev pub evenUp : Rect → Rect → Rect
+evenUp = topBy (λ b a. clampedTop b a +ℤ pos (distance (b .top) (clampedTop b a) % 2))
+
+abbrev pub roundedUp : Machine
+roundedUp = cropping clamped evenUp
 
 -- the buffer that an arrival was stored in, else k
 abbrev pub storedBy : Arrival → ℕ → ℕ
@@ -403,6 +458,11 @@ pub record WrongDevices : Type 0 where
   pub tie-up : Wrong TieUp tieUp
   pub greatest-missed : Wrong GreatestMissed greatestMissed
   pub from-above : Wrong FromAbove fromAbove
+  pub opening-left-out : Wrong FieldsMixed openingLeftOut
+  pub not-rounded : Wrong FieldsMixed notRounded
+  pub rounded-first : Wrong FieldsMixed roundedFirst
+  pub top-itself : Wrong FieldsMixed topItself
+  pub rounded-up : Wrong TopLowered roundedUp
   pub streams-mixed : Wrong StreamsMixed streamsMixed
   pub held-up : Wrong HeldUp heldUp
   pub twice-taken : Wrong TwiceTaken twiceTaken

@@ -3,4 +3,5 @@ pub mod InForce
 pub mod Switched
 pub mod Waiting
 pub mod Sizes
+pub mod Crops
 pub mod Meets

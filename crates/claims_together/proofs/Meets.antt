@@ -4,6 +4,7 @@ use Rattle.claims.proofs.Devices.{device-1, device-2, device-3, device-counts, 
 use Rattle.claims_together.specs.Meets.{Meets}
 use Rattle.claims_together.proofs.Waiting.{stopped-or-idle}
 use Rattle.claims_together.proofs.Sizes.{nearest-sizes}
+use Rattle.claims_together.proofs.Crops.{fields-apart}
 
 pub device-meets : Meets (machineOf ourDevice)
 device-meets = record {
@@ -14,4 +15,5 @@ device-meets = record {
   answers = device-answers;
   stopped-or-idle = λ s m k. stopped-or-idle s m k (machineOf ourDevice s m) (device-1 s m);
   nearest-sizes = λ s m. nearest-sizes s m (machineOf ourDevice s m) (device-1 s m) (device-2 s m);
+  fields-apart = λ s m. fields-apart s m (machineOf ourDevice s m) (device-1 s m) (device-answers s m);
 }

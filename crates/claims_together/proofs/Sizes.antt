@@ -54,15 +54,15 @@ pub is-try : requestOf 0xC0CC5640 .call ≡ TryFmt
 unfolding requestOf callOf knownWords
 is-try = refl
 
-module _ (s : List ℕ) (m : Kind → List ℕ) (S : Session) (d1 : Demand1 s m S) (d2 : Demand2 s S) where
-  -- a device that accepts a request was opened, and with a good sheet
-  pub good : (cs : List Call) (w : ℕ) (a : List ℕ) → S .request cs w a .number ≡ 0 → goodSheet s ≡ true
-  good cs w a z =
-      let (opened, e) = past (not (eqb (S .opening) 0)) (λ n. omega (arith, n)) (sym (d1 .requests cs w a) ∙ z) in
-      let zero = eqb-true (S .opening) 0 (not-false (eqb (S .opening) 0) opened) in
-      let (sheet, f) = past (not (goodSheet s)) (λ n. omega (arith, n)) (sym (d1 .opening) ∙ zero) in
-      not-false (goodSheet s) sheet
+-- a device that accepts a request was opened, and with a good sheet
+pub good : (s : List ℕ) (m : Kind → List ℕ) (S : Session) → Demand1 s m S → (cs : List Call) (w : ℕ) (a : List ℕ) → S .request cs w a .number ≡ 0 → goodSheet s ≡ true
+good s m S d cs w a z =
+    let (opened, e) = past (not (eqb (S .opening) 0)) (λ n. omega (arith, n)) (sym (d .requests cs w a) ∙ z) in
+    let zero = eqb-true (S .opening) 0 (not-false (eqb (S .opening) 0) opened) in
+    let (sheet, f) = past (not (goodSheet s)) (λ n. omega (arith, n)) (sym (d .opening) ∙ zero) in
+    not-false (goodSheet s) sheet
 
+module _ (s : List ℕ) (m : Kind → List ℕ) (S : Session) (d1 : Demand1 s m S) (d2 : Demand2 s S) where
   module _ (cs : List Call) (w : ℕ) (a : List ℕ) (call : Negotiates (requestOf w .call)) (type : wordAt a 0 ≡ typeOf Kind.pictures) (z : S .request cs w a .number ≡ 0) where
     -- what holds of every accepted TRY_FMT of this argument holds of an accepted S_FMT too, which answers what TRY_FMT answers
     as-tried : (P : Given → Type 0) → ((t : ℕ) → requestOf t .call ≡ TryFmt → S .request cs t a .number ≡ 0 → P (S .request cs t a)) → P (S .request cs w a)
@@ -95,6 +95,6 @@ module _ (s : List ℕ) (m : Kind → List ℕ) (S : Session) (d1 : Demand1 s m 
         by-call s m Kind.pictures S d1 cs w a SFmt e
         ∙ ap (λ (n : ℕ). setNumber (S .opening) (length a) (wordAt a 0) n) (ap (λ (p : Paper). p .granted) (paper-at s m Kind.pictures S d1 cs a 0 type) ∙ none cs empty)
         ∙ rw (opened, long, type);
-    widths = λ cs w a call type z. walk-nearest (widthsOf s) (geometry s (good cs w a z) .widths) (wordAt a 4) _ (nearest-width cs w a call type z);
-    heights = λ cs w a call type z. walk-nearest (heightsOf s) (geometry s (good cs w a z) .heights) (wordAt a 8) _ (nearest-height cs w a call type z);
+    widths = λ cs w a call type z. walk-nearest (widthsOf s) (geometry s (good s m S d1 cs w a z) .widths) (wordAt a 4) _ (nearest-width cs w a call type z);
+    heights = λ cs w a call type z. walk-nearest (heightsOf s) (geometry s (good s m S d1 cs w a z) .heights) (wordAt a 8) _ (nearest-height cs w a call type z);
   }

@@ -1,4 +1,5 @@
 pub mod Waiting
 pub mod Sizes
+pub mod Crops
 pub mod Meets
 pub mod NoRoom

@@ -6,6 +6,7 @@ use Rattle.claims.specs.Machine.{Machine}
 use Rattle.claims.specs.Demands.{Demand1, Demand2, Demand3, Counts, Answers}
 use Rattle.claims_together.specs.Waiting.{StoppedOrIdle}
 use Rattle.claims_together.specs.Sizes.{NearestSizes}
+use Rattle.claims_together.specs.Crops.{FieldsApart}
 
 pub record Meets (M : Machine) : Type 0 where
   pub demand-1 : (s : List ℕ) (m : Kind → List ℕ) → Demand1 s m (M s m)
@@ -16,3 +17,4 @@ pub record Meets (M : Machine) : Type 0 where
   pub answers : (s : List ℕ) (m : Kind → List ℕ) → Answers s m (M s m)
   pub stopped-or-idle : (s : List ℕ) (m : Kind → List ℕ) (k : Kind) → StoppedOrIdle (M s m) k
   pub nearest-sizes : (s : List ℕ) (m : Kind → List ℕ) → NearestSizes s (M s m)
+  pub fields-apart : (s : List ℕ) (m : Kind → List ℕ) → FieldsApart (M s m)

@@ -1,5 +1,6 @@
-// What the demands of `claims` say together: what a client may read from DQBUF, what a walk of all sizes gives, that our device meets all
-// of them, and that they leave no room. As there, nothing runs: each function is named after a claim, and its contract is the claim.
+// What the demands of `claims` say together: what a client may read from DQBUF, what a walk of all sizes gives, that a crop keeps the fields
+// apart, that our device meets all of them, and that they leave no room. As there, nothing runs: each function is named after a claim, and
+// its contract is the claim.
 ghost use mathlib.Core.Path.{_≡_};
 ghost use mathlib.Core.Bool.{true};
 ghost use mathlib.Core.List.{List};
@@ -8,6 +9,7 @@ ghost use Rattle.claims.specs.Calls.{Kind};
 ghost use Rattle.claims.specs.Device.{machineOf, ourDevice};
 ghost use Rattle.claims_together.specs.Waiting.{StoppedOrIdle};
 ghost use Rattle.claims_together.specs.Sizes.{NearestSizes};
+ghost use Rattle.claims_together.specs.Crops.{FieldsApart};
 ghost use Rattle.claims_together.specs.Meets.{Meets};
 ghost use Rattle.claims_together.specs.NoRoom.{NoRoom};
 
@@ -21,6 +23,13 @@ pub fn stopped_or_idle() -> bool
 // TRY_FMT and S_FMT of pictures answer the sizes that a walk of the whole grid gives: of all allowed ones the nearest, the smaller on a tie.
 pub fn nearest_sizes() -> bool
     ensures { λ r. ⌜ (r ≡ true) × ((s : List ℕ) (m : Kind → List ℕ) → NearestSizes s (machineOf ourDevice s m)) ⌝ }
+{
+    true
+}
+
+// What G_CROP tells lies inside the bounds that CROPCAP tells, with its top at an even distance from theirs: at opening, and after every call.
+pub fn fields_apart() -> bool
+    ensures { λ r. ⌜ (r ≡ true) × ((s : List ℕ) (m : Kind → List ℕ) → FieldsApart (machineOf ourDevice s m)) ⌝ }
 {
     true
 }

@@ -12,9 +12,9 @@ use Rattle.crop_rules.specs.Crop.{minZ, maxZ, clampZ, NearestOf}
 use Rattle.crop_rules.proofs.Counts.{le-counts, gt-counts, counts-le, same-count}
 
 -- x is not below -k, and it is n above -k
-record Counted (k : ℕ) (x : ℤ) (n : ℕ) : Type 0 where
-  count : above k x ≡ n
-  held : under x ≤ k
+pub record Counted (k : ℕ) (x : ℤ) (n : ℕ) : Type 0 where
+  pub count : above k x ≡ n
+  pub held : under x ≤ k
 
 module _ (k : ℕ) (x y : ℤ) (hx : under x ≤ k) (hy : under y ≤ k) where
   lesser : Counted k (minZ x y) (min (above k x) (above k y))
@@ -35,13 +35,21 @@ module _ (k : ℕ) (x y : ℤ) (hx : under x ≤ k) (hy : under y ≤ k) where
 
 module _ (low high x : ℤ) where
   -- counted from -k it is the lesser of high and x, raised to low
-  clamp-count : (k : ℕ) → under low ≤ k → under high ≤ k → under x ≤ k
+  pub clamp-count : (k : ℕ) → under low ≤ k → under high ≤ k → under x ≤ k
       → Counted k (clampZ low high x) (above k low + (min (above k high) (above k x) - above k low))
   unfolding clampZ
   clamp-count k hl hh hx =
       let m = lesser k high x hh hx in
       let g = greater k low (minZ high x) hl (m .held) in
       record { count = omega arith; held = g .held }
+
+  -- it is never below low
+  pub clamp-from : leZ low (clampZ low high x) ≡ true
+  clamp-from =
+      let k = under low + under high + under x in
+      let hl : under low ≤ k = omega arith in
+      let c = clamp-count k hl (omega arith) (omega arith) in
+      counts-le k low (clampZ low high x) hl (c .held) (omega arith)
 
   -- it is there, if anything is
   in-range : leZ low high ≡ true → (leZ low (clampZ low high x) && leZ (clampZ low high x) high) ≡ true

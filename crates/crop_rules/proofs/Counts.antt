@@ -21,6 +21,26 @@ module _ (k : ℕ) (x y : ℤ) (hx : under x ≤ k) (hy : under y ≤ k) where
   pub counts-le : above k x ≤ above k y → leZ x y ≡ true
   counts-le h = above-order k x y hx hy ∙ le-leb (above k x) (above k y) h
 
+pub le-same : (x : ℤ) → leZ x x ≡ true
+le-same x = counts-le (under x) x x (omega arith) (omega arith) (omega arith)
+
+-- of two numbers that one is above the other
+pub le-turned : (x y : ℤ) → leZ x y ≡ false → leZ y x ≡ true
+le-turned x y e =
+    let k = under x + under y in
+    let hx : under x ≤ k = omega arith in
+    let hy : under y ≤ k = omega arith in
+    counts-le k y x hy hx (omega (arith, gt-counts k x y hx hy e))
+
+-- one up to another, and that up to a third
+pub le-then : (x y z : ℤ) → leZ x y ≡ true → leZ y z ≡ true → leZ x z ≡ true
+le-then x y z e f =
+    let k = under x + under y + under z in
+    let hx : under x ≤ k = omega arith in
+    let hy : under y ≤ k = omega arith in
+    let hz : under z ≤ k = omega arith in
+    counts-le k x z hx hz (omega (arith, le-counts k x y hx hy e, le-counts k y z hy hz f))
+
 -- numbers with one count are one
 pub same-count : (k : ℕ) (x y : ℤ) → under x ≤ k → under y ≤ k → above k x ≡ above k y → x ≡ y
 unfolding above

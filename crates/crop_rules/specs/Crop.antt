@@ -1,10 +1,13 @@
--- A crop rectangle brought inside its bounds: the sizes first, then the places for those sizes. Every number is taken, bad bounds too.
-use Prim.Native.Nat.{_≤_}
+-- A crop rectangle brought inside its bounds: the sizes first, then the places for those sizes, then the top to an even distance from the
+-- bounds' top. Every number is taken, bad bounds too.
+use Prim.Native.Nat.{ℕ, _-_, _%_, _≤_}
 use mathlib.Core.Path.{_≡_}
 use mathlib.Core.Bool.{Bool, true, cond}
+use mathlib.Core.List.{List}
 use lib.IntN.{ℤ, pos, _+ℤ_, _-ℤ_}
 use lib.Signed.{leZ}
 use Rattle.wire_signed.specs.Signed.{distance}
+use Rattle.sheet_geometry.specs.Geometry.{cropBounds, cropDefault}
 use Rattle.sheet_geometry.specs.declared.Rect.{Rect}
 
 -- the lesser of two numbers
@@ -27,6 +30,14 @@ sizeIn size asked = clampZ (pos 1) size asked
 unfoldable pub clampedPlace : ℤ → ℤ → ℤ → ℤ → ℤ
 clampedPlace start size long asked = clampZ start (start +ℤ (size -ℤ long)) asked
 
+-- a number rounded down to an even one
+unfoldable pub evenDown : ℕ → ℕ
+evenDown n = n - n % 2
+
+-- the rule that keeps the fields apart (A4): the distance of a top from the bounds' top is rounded down to an even number
+unfoldable pub fieldsApart : ℤ → ℤ → ℤ
+fieldsApart start at = start +ℤ pos (evenDown (distance start at))
+
 -- the width taken in bounds b where a is asked
 unfoldable pub widthIn : Rect → Rect → ℤ
 widthIn b a = sizeIn (b .width) (a .width)
@@ -39,15 +50,33 @@ heightIn b a = sizeIn (b .height) (a .height)
 unfoldable pub leftIn : Rect → Rect → ℤ
 leftIn b a = clampedPlace (b .left) (b .width) (widthIn b a) (a .left)
 
--- the top taken, for the height taken
+-- the top brought inside, for the height taken
+unfoldable pub clampedTop : Rect → Rect → ℤ
+clampedTop b a = clampedPlace (b .top) (b .height) (heightIn b a) (a .top)
+
+-- the top taken: the one brought inside, its distance from the bounds' top made even
 unfoldable pub topIn : Rect → Rect → ℤ
-topIn b a = clampedPlace (b .top) (b .height) (heightIn b a) (a .top)
+topIn b a = fieldsApart (b .top) (clampedTop b a)
 
 -- the rectangle taken
 unfoldable pub clamped : Rect → Rect → Rect
 clamped b a = record { left = leftIn b a; top = topIn b a; width = widthIn b a; height = heightIn b a }
 
--- ---- nearest, for the laws
+-- the crop at opening (A4): the sheet's default, taken as if it had been asked for
+unfoldable pub openingCrop : List ℕ → Rect
+openingCrop s = clamped (cropBounds s) (cropDefault s)
+
+-- ---- for the laws
+
+-- a rectangle with its top at an even distance from that of bounds b, and else as it is
+abbrev pub topApart : Rect → Rect → Rect
+topApart b a = record { left = a .left; top = fieldsApart (b .top) (a .top); width = a .width; height = a .height }
+
+-- p is the last number up to x at an even distance from start
+pub record LastEven (start x p : ℤ) : Type 0 where
+  pub even : distance start p % 2 ≡ 0
+  pub upTo : leZ p x ≡ true
+  pub last : (y : ℤ) → distance start y % 2 ≡ 0 → leZ y x ≡ true → leZ y p ≡ true
 
 -- p is the one nearest to x of the numbers that pass a test: it passes, none that passes is nearer, and no other is as near
 pub record NearestOf (test : ℤ → Bool) (x p : ℤ) : Type 0 where

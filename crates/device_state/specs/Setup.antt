@@ -4,11 +4,12 @@ use mathlib.Core.List.{List}
 use lib.IntN.{pos}
 use lib.ListN.{getD}
 use Rattle.wire_signed.specs.Signed.{signed}
-use Rattle.sheet_geometry.specs.Geometry.{lineAlignment, cropDefault}
+use Rattle.sheet_geometry.specs.Geometry.{lineAlignment}
 use Rattle.sheet_geometry.specs.declared.Rect.{Rect}
 use Rattle.format_rules.specs.declared.Format.{Format}
 use Rattle.format_rules.specs.Size.{bytesPerLine, imageSize}
 use Rattle.negotiation_rules.specs.Negotiation.{openingFormat}
+use Rattle.crop_rules.specs.Crop.{openingCrop}
 
 -- ready is not 0 while the device is open; the format in force with its line and image size; the crop
 pub record Setup : Type 0 where
@@ -40,7 +41,7 @@ closedSetup =
       crop = record { left = pos 0; top = pos 0; width = pos 0; height = pos 0 };
     }
 
--- after a good opening: first format, greatest size, default crop
+-- after a good opening: first format, greatest size, default crop with its top at an even distance
 abbrev pub openingSetup : List ℕ → Setup
 openingSetup s =
     record {
@@ -48,5 +49,5 @@ openingSetup s =
       format = openingFormat s;
       line = bytesPerLine (openingFormat s) (lineAlignment s);
       size = imageSize (openingFormat s) (lineAlignment s);
-      crop = cropDefault s;
+      crop = openingCrop s;
     }

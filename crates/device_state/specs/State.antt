@@ -42,7 +42,7 @@ stateIn p v l w x = stateOf (setupIn p) v l (streamIn w) (streamIn x)
 unfoldable pub closedState : State
 closedState = stateOf closedSetup (replicate 32 0) noServices (freshStream 0) (freshStream 0)
 
--- after a good opening: first format, greatest size, default crop, default values, no services, no buffers
+-- after a good opening: first format, greatest size, default crop with its top at an even distance, default values, no services, no buffers
 unfoldable pub openingState : List ℕ → ℕ → ℕ → State
 openingState s n m = stateOf (openingSetup s) (openingValues s) noServices (freshStream n) (freshStream m)
 

@@ -42,7 +42,7 @@ pub fn closed() -> SetupWords
     [0; 10]
 }
 
-// After a good opening: first format, greatest size, default crop.
+// After a good opening: first format, greatest size, default crop with its top at an even distance.
 pub fn opening(sheet: &[u8]) -> SetupWords
     ensures { λ r. ⌜ setupIn r ≡ openingSetup (now (sheet .entry)) ⌝ }
 {
@@ -50,7 +50,7 @@ pub fn opening(sheet: &[u8]) -> SetupWords
     let alignment = sheet_geometry::line_alignment(sheet);
     let line = format_rules::bytes_per_line(f, alignment);
     let size = format_rules::image_size(f, alignment);
-    let c = sheet_crop::crop_default(sheet);
+    let c = crop_rules::opening_crop(sheet);
     [
         1,
         f.width,

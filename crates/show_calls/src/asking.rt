@@ -21,7 +21,7 @@ pub fn word(c: u8) -> u32 {
         b'Q' => 0xC0445624,
         b'C' => 0xC02C563A,
         b'k' => 0xC014563B,
-        b'K' => 0x4014563C,
+        b'K' | b'J' => 0x4014563C,
         b'V' => 0xC0745645,
         _ => 0xC0CC5604,
     }
@@ -60,14 +60,15 @@ pub(crate) fn last(c: u8) -> u32 {
 }
 
 // What a client asks with, by two numbers. An opening has the length of the picture memory, that of the sheet, the sheet's least width, which
-// is even in a good one, and the length of the caption memory. An arrival has its length, its time and its type, and one of captions the load
-// and the service. The 7 is the bytes per line that a client would like, which nobody looks at.
+// is even in a good one, the length of the caption memory, and 1 for the sheet with odd tops. An arrival has its length, its time and its
+// type, and one of captions the load and the service. The 7 is the bytes per line that a client would like, which nobody looks at.
 pub(crate) fn argument(c: u8, x: u32, n: u32) -> Words {
     match c {
         b'B' => words(n, 324, 160, 0, 0, 0),
         b'D' => words(n, 324, 161, 0, 0, 0),
         b'U' => words(n, 323, 160, 0, 0, 0),
         b'O' => words(x, 324, 160, n, 0, 0),
+        b'I' => words(n, 324, 160, 0, 1, 0),
         b'w' => words(143360, x, n, 1, 0, 0),
         b'h' => words(143359, x, n, 1, 0, 0),
         b'z' => words(143360, x, n, 2, 0, 0),
@@ -83,6 +84,7 @@ pub(crate) fn argument(c: u8, x: u32, n: u32) -> Words {
         b'r' => words(n, kind(x), 1, 0, 0, 0),
         b'S' => words(x, n, 0, 0, 0, 0),
         b'K' => words(1, x, 0, n, 400, 0),
+        b'J' => words(1, 0xFFFFFFF8, x, 640, n, 0),
         b'y' => words(2, 0, 0, 0, 0, 0),
         b'G' | b'Q' | b'p' | b'#' => words(n, x, 0, 0, 0, 0),
         _ => words(kind(x), 0, 0, 0, 0, 0),

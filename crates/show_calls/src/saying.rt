@@ -5,6 +5,7 @@ fn said(c: u8, a: &[u8]) {
     show_lines::told(
         b"Bopen, bench sheet, memory of %d\x00 bytes\n\
         Oopen, bench sheet, memories of %d\x00 and %d\x0c bytes\n\
+        Iopen, sheet with odd tops, memory of %d\x00 bytes\n\
         Dopen, damaged sheet, memory of %d\x00 bytes\n\
         Uopen, cut sheet, memory of %d\x00 bytes\n\
         cQUERYCAP\n\
@@ -30,6 +31,7 @@ fn said(c: u8, a: &[u8]) {
         CCROPCAP\n\
         kG_CROP\n\
         KS_CROP left %i\x04 top %i\x08 width %i\x0c height %i\x10\n\
+        JS_CROP left %i\x04 top %i\x08 width %i\x0c height %i\x10\n\
         uword 0xc0cc5606\n\
         lG_FMT with 203 bytes\n\
         yG_FMT of type %d\x00\n\

@@ -33,7 +33,9 @@ fn main() {
             9963777x11S 9963777x-8S 9963777G 9963777x0S 9963777G 9963778G\n\
         4f. Crop\n\
             1048576B C 100x608K k -5x608K k -2147483648x608K k 100x0K k\n\
-        4g. Buffers and planes\n\
+        4g. A crop keeps the fields apart, at opening too\n\
+            1048576B 0x300J k 1x300J k 31x300J k 1048576I C k -7x300J k -6x300J k -5x300J k 24x300J k -32768x300J k\n\
+        4h. Buffers and planes\n\
             1048576B 304x224f 10r 6b 7b 0r 143360x0p 143360x1p 143360x2p 143360x3p \
             304x224P 10r 8b 9b 107520x0p 107520x1p 107520x2p 107520x3p \
             143360x0p 143360x1p 143360x2p 143360x3p\n\

@@ -8,5 +8,6 @@ fn main() {
     let alignment = sheet_geometry::line_alignment(&s);
     sizes::negotiated(&s, alignment);
     sizes::cropped(&s);
+    sizes::opened();
     show_planes::planes(alignment);
 }

@@ -1,4 +1,4 @@
-// Formats that are negotiated, and a crop that stays as asked.
+// Formats that are negotiated, and crops: as asked, and at opening.
 use format_rules::Format;
 use sheet_geometry::Rect;
 
@@ -27,22 +27,51 @@ pub(crate) fn negotiated(s: &[u8; 324], alignment: u32) {
     negotiate(s, alignment, 4294967295, 0);
 }
 
-pub(crate) fn cropped(s: &[u8; 324]) {
-    let asked = Rect {
-        left: -5,
-        top: 0,
-        width: 608,
-        height: 400,
-    };
-    let r = crop_rules::clamp(sheet_crop::crop_bounds(s), asked);
+fn told(text: &[u8], r: Rect) {
     let numbers = [
         wire_signed::as_bits(r.left),
         wire_signed::as_bits(r.top),
         wire_signed::as_bits(r.width),
         wire_signed::as_bits(r.height),
     ];
-    show_lines::line(
+    show_lines::line(text, &numbers);
+}
+
+fn rect(left: i32, top: i32, width: i32, height: i32) -> Rect {
+    Rect {
+        left: left,
+        top: top,
+        width: width,
+        height: height,
+    }
+}
+
+// A left below zero stays as asked, and a top goes up to an even distance from that of the bounds.
+pub(crate) fn cropped(s: &[u8; 324]) {
+    let bounds = sheet_crop::crop_bounds(s);
+    told(
         b"crop left -5, width 608: left %i, top %i, width %i, height %i\n",
-        &numbers,
+        crop_rules::clamp(bounds, rect(-5, 0, 608, 400)),
+    );
+    told(
+        b"crop top 31, height 300: left %i, top %i, width %i, height %i\n",
+        crop_rules::clamp(bounds, rect(-8, 31, 640, 300)),
+    );
+}
+
+// At opening, too: of a sheet with odd tops the crop is not the default.
+pub(crate) fn opened() {
+    let s = bench_sheet::odd_sheet();
+    told(
+        b"odd tops, bounds: left %i, top %i, width %i, height %i\n",
+        sheet_crop::crop_bounds(&s),
+    );
+    told(
+        b"odd tops, default: left %i, top %i, width %i, height %i\n",
+        sheet_crop::crop_default(&s),
+    );
+    told(
+        b"odd tops, crop at opening: left %i, top %i, width %i, height %i\n",
+        crop_rules::opening_crop(&s),
     );
 }

@@ -19,7 +19,7 @@ pub fn done(
     a: &mut [u8],
 ) -> Made {
     match c {
-        b'B' | b'D' | b'U' | b'O' => show_opening::open(a),
+        b'B' | b'D' | b'U' | b'O' | b'I' => show_opening::open(a),
         b'w' | b'h' | b'z' => show_frames::arrive(d, pictures, a),
         b'a' | b'A' | b'i' => show_frames::arrive(d, captions, a),
         b'v' | b'p' | b'#' => {

@@ -186,7 +186,8 @@ fn crop(random: &mut Random, opened: Option<&Opened>, bytes: &mut [u8]) {
         let place = match random.below(8) {
             0 => random.pick(&[i32::MIN, i32::MAX, 0, -1, 1]),
             1 => random.pick(&[start - 1, start, start + size, start + size - 1]),
-            2 => start.wrapping_add(size).wrapping_sub(length).wrapping_add(random.between(-1, 1) as i32),
+            2 => start.saturating_add(random.pick(&[0, 1, 2, 31])),
+            3 => start.wrapping_add(size).wrapping_sub(length).wrapping_add(random.between(-1, 1) as i32),
             _ => start + random.between(-20, size as i64 + 20) as i32,
         };
         put_signed(bytes, at, place);

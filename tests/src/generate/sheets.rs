@@ -95,7 +95,7 @@ fn extreme_sizes(random: &mut Random) -> [u32; 3] {
 }
 
 fn bounds(random: &mut Random) -> [i32; 4] {
-    let mut start = || random.pick(&[-32_768, 32_767, 0, -8, -1, 1, 100, -100]);
+    let mut start = || random.pick(&[-32_768, 32_767, 0, -8, -7, -1, 1, 100, -100]);
     let (left, top) = (start(), start());
     let mut size = || match random.below(5) {
         0 => 1,
@@ -105,11 +105,12 @@ fn bounds(random: &mut Random) -> [i32; 4] {
     [left, top, size(), size()]
 }
 
-/// A rectangle of at least one point inside the bounds, often touching an edge.
+/// A rectangle of at least one point inside the bounds, often touching an edge, or beginning a line below it.
 fn inside(random: &mut Random, bounds: [i32; 4]) -> [i32; 4] {
-    let mut along = |start: i32, size: i32| match random.below(4) {
+    let mut along = |start: i32, size: i32| match random.below(5) {
         0 => (start, size),
         1 => (start + size - 1, 1),
+        2 if size > 1 => (start + 1, size - 1),
         _ => {
             let part = random.between(1, size as i64) as i32;
             (start + random.between(0, (size - part) as i64) as i32, part)

@@ -29,6 +29,12 @@ impl Rectangle {
         put_signed(bytes, at + 12, self.height);
     }
 
+    /// What S_CROP makes of this wish.
+    #[inline]
+    pub fn taken(&self, bounds: &Rectangle) -> Rectangle {
+        self.inside(bounds).fields_apart(bounds)
+    }
+
     /// The size comes into 1..bounds first; then the place moves as little as is needed to lie inside.
     #[inline]
     pub fn inside(&self, bounds: &Rectangle) -> Rectangle {
@@ -40,6 +46,12 @@ impl Rectangle {
             width,
             height,
         }
+    }
+
+    /// Inside the bounds, this moves up by a line if the lines between its top and theirs are odd in number (A4).
+    #[inline]
+    pub fn fields_apart(self, bounds: &Rectangle) -> Rectangle {
+        Rectangle { top: bounds.top + (self.top - bounds.top) / 2 * 2, ..self }
     }
 
     /// True if all of this lies inside `outer`, whatever the numbers are.

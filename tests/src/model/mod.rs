@@ -54,7 +54,7 @@ pub fn open(sheet: &[u8], lengths: [u64; 2]) -> (u32, Device) {
 }
 
 impl Opened {
-    /// First format, greatest size, default crop, default values, no services, no buffers.
+    /// First format, greatest size, default crop with the fields apart, default values, no services, no buffers.
     fn new(sheet: Sheet, [picture_length, caption_length]: [u64; 2]) -> Opened {
         let mut values = [0; 32];
         for (value, control) in values.iter_mut().zip(&sheet.controls) {
@@ -63,7 +63,7 @@ impl Opened {
         let picture = Picture::new(sheet.formats[0].code, sheet.width.greatest, sheet.height.greatest, sheet.alignment);
         Opened {
             picture,
-            crop: sheet.default,
+            crop: sheet.default.fields_apart(&sheet.bounds),
             values,
             lines: Lines::default(),
             pictures: Stream::new(PICTURES, picture_length, picture.image_size),

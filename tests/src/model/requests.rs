@@ -232,7 +232,7 @@ impl Opened {
     /// Write-only: what was kept is seen by G_CROP.
     fn s_crop(&mut self, argument: &[u8; 20]) -> Outcome {
         check_type(argument, 0)?;
-        self.crop = Rectangle::read(argument, 4).inside(&self.sheet.bounds);
+        self.crop = Rectangle::read(argument, 4).taken(&self.sheet.bounds);
         Ok(())
     }
 }

@@ -1,11 +1,11 @@
 -- The table is computed, both sides of every row. Assumes nothing.
 use mathlib.Core.Path.{_≡_, refl}
-use mathlib.Core.List.{map}
+use mathlib.Core.List.{List, map}
 use Rattle.wire_read.specs.Words.{wordAt, le32, bytesOf}
-use Rattle.wire_signed.specs.Signed.{signed, bits, signedAt, above}
+use Rattle.wire_signed.specs.Signed.{signed, bits, signedAt, above, distance}
 use Rattle.sheet_contents.specs.Contents.{geometryAt, controlsAt, controlCount, controlAt}
 use Rattle.sheet_records.specs.Records.{controlId, controlKind, limitsOf, controlFlags, controlFields}
-use Rattle.sheet_geometry.specs.Geometry.{rangeAt, widthsOf, lineAlignment, rectAt, cropBounds, cropDefault}
+use Rattle.sheet_geometry.specs.Geometry.{rangeAt, widthsOf, lineAlignment, rectAt, cropBounds, cropDefault, pixelAspect}
 use Rattle.grid_rules.specs.Grid.{nearestMultiple, nearestUpTo, nearestSize, nearestValue, apart, firstUnbeaten, sizesOf, walkSizes}
 use Rattle.format_rules.specs.Code.{bytesPerPixel, halfChroma}
 use Rattle.format_rules.specs.Size.{roundUp, bytesPerLine, heldHeight, firstPlane, imageSize}
@@ -34,34 +34,43 @@ use Rattle.service_rules.specs.Negotiation.{common, fittingAt, negotiatedLines,
 use Rattle.service_replies.specs.Halves.{halfAt}
 use Rattle.service_replies.specs.Services.{askedServices}
 use Rattle.service_calls.specs.Services.{sServicesOf}
-use Rattle.bench_sheet.proofs.Good.{bench-good}
+use Rattle.bench_sheet.proofs.Good.{bench-good, odd-good}
 use Rattle.plane_rules.specs.Planes.{planesOf, componentOf, componentLength, planeLength, planeStart}
 use Rattle.negotiation_rules.specs.Negotiation.{offered, offersAmong, chosenCode, negotiated, askedFormat}
 use Rattle.negotiation_rules.specs.Answer.{pictureWords, formatReply}
 use Rattle.negotiation_calls.specs.Negotiations.{sFmtOf, tryFmtOf}
-use Rattle.crop_rules.specs.Crop.{minZ, maxZ, clampZ, sizeIn, clampedPlace, widthIn, leftIn, clamped}
+use Rattle.crop_rules.specs.Crop.{minZ, maxZ, clampZ, sizeIn, clampedPlace, evenDown, fieldsApart, widthIn, heightIn, leftIn, clampedTop, topIn, clamped, openingCrop}
+use Rattle.crop_replies.specs.Replies.{cropReply, cropCapabilityReply}
+use Rattle.crop_calls.specs.Crops.{askedCrop, cropcapOf, gCropOf, sCropOf}
 use Rattle.control_place_rules.specs.First.{firstFrom, firstBelow}
 use Rattle.control_place_rules.specs.Find.{present, placeOf}
 use Rattle.control_value_rules.specs.Values.{rangedAt, settingAt, settingOf}
 use Rattle.control_calls.specs.Controls.{sCtrlOf}
 use Rattle.control_replies.specs.Replies.{valueReply}
-use Rattle.bench_sheet.specs.Bench.{benchSheet, benchMemory}
-use Rattle.bench_figures.specs.Figures.{opened, figuresOf, figures, captionMemory}
+use Rattle.bench_sheet.specs.Bench.{benchSheet, oddSheet, benchMemory}
+use Rattle.bench_figures.specs.Figures.{Figure, opened, oddOpened, figuresOf, figures, captionMemory}
 use Rattle.bench_figures.proofs.bench_figures.Statement.{statement}
 use Rattle.bench_figures.proofs.bench_figures.Tie as tie
 
--- the bench sheet is good, so the opening is not refused
+-- the bench sheets are good, so no opening is refused
 opened-good : opened ≡ openingState (keptOf benchSheet) benchMemory captionMemory
 unfolding opened openedOf
 opened-good = rw (bench-good, opened) refl
 
-computed : map (λ f. f .got) (figuresOf (openingState (keptOf benchSheet) benchMemory captionMemory)) ≡ map (λ f. f .expected) (figuresOf (openingState (keptOf benchSheet) benchMemory captionMemory))
-unfolding figuresOf any first apart firstUnbeaten sizesOf walkSizes offered offersAmong chosenCode askedFormat pictureWords formatReply sFmtOf tryFmtOf halfAt askedServices sServicesOf tab anyBelow has setOf offeredAt capabilityLines common fittingAt negotiatedLines unionOf countBelow ioSize keptOf knownWords callOf requestOf openingState openingFormat openingValues defaultValues freshStream emptied requestAnswer reqbufsOf streamonOf streamoffOf bufferRequest startOf started stopOf stopped deviceVerdict verdictOf verdictAfter formatCode formatAt formatsAt heightsOf grantOf benchSheet wordAt le32 bytesOf signed bits signedAt above geometryAt controlsAt controlCount controlAt controlId controlKind limitsOf controlFlags controlFields rangeAt widthsOf lineAlignment rectAt cropBounds cropDefault nearestMultiple nearestUpTo nearestSize nearestValue bytesPerPixel halfChroma roundUp bytesPerLine heldHeight firstPlane imageSize slotSize planesOf componentOf componentLength planeLength planeStart negotiated minZ maxZ clampZ sizeIn clampedPlace widthIn leftIn clamped firstFrom firstBelow present placeOf rangedAt settingAt settingOf sCtrlOf valueReply
+odd-opened : oddOpened ≡ openingState (keptOf oddSheet) benchMemory captionMemory
+unfolding oddOpened openedOf
+odd-opened = rw (odd-good, oddOpened) refl
+
+abbrev table : List Figure
+table = figuresOf (openingState (keptOf benchSheet) benchMemory captionMemory) (openingState (keptOf oddSheet) benchMemory captionMemory)
+
+computed : map (λ f. f .got) table ≡ map (λ f. f .expected) table
+unfolding figuresOf any first apart firstUnbeaten sizesOf walkSizes offered offersAmong chosenCode askedFormat pictureWords formatReply sFmtOf tryFmtOf halfAt askedServices sServicesOf tab anyBelow has setOf offeredAt capabilityLines common fittingAt negotiatedLines unionOf countBelow ioSize keptOf knownWords callOf requestOf openingState openingFormat openingValues defaultValues freshStream emptied requestAnswer reqbufsOf streamonOf streamoffOf bufferRequest startOf started stopOf stopped deviceVerdict verdictOf verdictAfter formatCode formatAt formatsAt heightsOf grantOf benchSheet wordAt le32 bytesOf signed bits signedAt above geometryAt controlsAt controlCount controlAt controlId controlKind limitsOf controlFlags controlFields rangeAt widthsOf lineAlignment rectAt cropBounds cropDefault nearestMultiple nearestUpTo nearestSize nearestValue bytesPerPixel halfChroma roundUp bytesPerLine heldHeight firstPlane imageSize slotSize planesOf componentOf componentLength planeLength planeStart negotiated minZ maxZ clampZ sizeIn clampedPlace evenDown fieldsApart widthIn heightIn leftIn clampedTop topIn clamped openingCrop distance oddSheet pixelAspect cropReply cropCapabilityReply askedCrop cropcapOf gCropOf sCropOf firstFrom firstBelow present placeOf rangedAt settingAt settingOf sCtrlOf valueReply
 computed = refl
 
 returns : tie.Need-returns
 unfolding figures
-returns c = rw opened-good computed
+returns c = rw (opened-good, odd-opened) computed
 
 pub bench-figures-spec : {M : Type 1} → statement M
 bench-figures-spec = tie.close (tie.spec returns)

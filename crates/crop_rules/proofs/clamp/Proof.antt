@@ -1,6 +1,6 @@
 -- Each field is what its function says of the fields handed to it. Assumes nothing.
 use Rattle.wire_signed.proofs.Integers.{again}
-use Rattle.crop_rules.specs.Crop.{widthIn, heightIn, leftIn, topIn, clamped}
+use Rattle.crop_rules.specs.Crop.{widthIn, heightIn, leftIn, clampedTop, topIn, clamped}
 use borrow.Author.Needs.{needs}
 use Rattle.crop_rules.proofs.clamp.Statement.{statement}
 use Rattle.crop_rules.proofs.clamp.Tie as tie
@@ -14,13 +14,13 @@ size-in-requires-2 c κs = search needs
 place-in-requires : tie.Need-place-in-requires
 place-in-requires c κs = search needs
 
-place-in-requires-2 : tie.Need-place-in-requires-2
-place-in-requires-2 c κs = search needs
+top-in-requires : tie.Need-top-in-requires
+top-in-requires c κs = search needs
 
 returns : tie.Need-returns
-unfolding clamped leftIn topIn widthIn heightIn
+unfolding clamped leftIn topIn clampedTop widthIn heightIn
 returns c =
-    let top = c .place-in2 in
+    let top = c .top-in in
     let after-left = c .before .before .before .before in
     let left = after-left .place-in in
     let after-height = after-left .before .before .before .before in
@@ -54,4 +54,4 @@ returns c =
 pub clamp-spec : {M : Type 1} → statement M
 clamp-spec =
     tie.close
-    (tie.spec size-in-requires size-in-requires-2 place-in-requires place-in-requires-2 returns)
+    (tie.spec size-in-requires size-in-requires-2 place-in-requires top-in-requires returns)

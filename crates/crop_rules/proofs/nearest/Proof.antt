@@ -2,6 +2,7 @@
 use mir.Facts.{toZ-ofZ}
 use Rattle.crop_rules.specs.Crop.{minZ, maxZ, clampZ}
 use Rattle.crop_rules.proofs.Casts.{casts, back, between}
+use Rattle.crop_rules.proofs.Counts.{le-turned}
 use borrow.Author.Needs.{needs}
 use Rattle.crop_rules.proofs.nearest.Statement.{statement}
 use Rattle.crop_rules.proofs.nearest.Tie as tie
@@ -18,7 +19,8 @@ cast-result c =
     let f = c .before .before .fits in
     let p = simp (back (f .asked), toZ-ofZ (f .high)) at (c .before .if1 .left) in
     let q = simp (back (f .low), toZ-ofZ (f .high)) at (c .if3 .taken) in
-    simp (toZ-ofZ (f .high)) (between _ _ _ q p (f .low) (f .asked))
+    let a = c .before .before .args in
+    simp (toZ-ofZ (f .high)) (between (a .low) (a .high) (a .asked) q (le-turned (a .asked) (a .high) p) (f .low) (f .asked))
 
 returns : tie.Need-returns
 unfolding clampZ minZ maxZ
@@ -42,7 +44,8 @@ returns-3 c =
     let f = c .before .before .fits in
     let p = simp (back (f .asked), toZ-ofZ (f .high)) at (c .before .if1 .left) in
     let q = simp (back (f .low), toZ-ofZ (f .high)) at (c .if3 .taken) in
-    simp (toZ-ofZ (f .high), toZ-ofZ (between _ _ _ q p (f .low) (f .asked)), p, q)
+    let a = c .before .before .args in
+    simp (toZ-ofZ (f .high), toZ-ofZ (between (a .low) (a .high) (a .asked) q (le-turned (a .asked) (a .high) p) (f .low) (f .asked)), p, q)
 
 returns-4 : tie.Need-returns-4
 unfolding clampZ minZ maxZ

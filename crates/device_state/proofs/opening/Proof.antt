@@ -17,8 +17,8 @@ bytes-per-line-requires c κs = search needs
 image-size-requires : tie.Need-image-size-requires
 image-size-requires c κs = search needs
 
-crop-default-requires : tie.Need-crop-default-requires
-crop-default-requires c κs = search needs
+opening-crop-requires : tie.Need-opening-crop-requires
+opening-crop-requires c κs = search needs
 
 as-bits-requires : tie.Need-as-bits-requires
 as-bits-requires c κs = search needs
@@ -36,7 +36,7 @@ returns : tie.Need-returns
 unfolding setupIn
 returns c =
     let e = c .before .before .before .before .before .before .before in
-    let k = e .before .crop-default in
+    let k = e .before .opening-crop in
     let f = e .struct-told .given in
     rw (
       bits-back (k .result .left) (c .before .before .before .before .before .before .as-bits .result) (f .0 .1) (c .before .before .before .before .before .before .as-bits .ensures),
@@ -58,7 +58,7 @@ opening-spec =
     line-alignment-requires
     bytes-per-line-requires
     image-size-requires
-    crop-default-requires
+    opening-crop-requires
     as-bits-requires
     as-bits-requires-2
     as-bits-requires-3
