@@ -18,6 +18,11 @@
  * S_FMT and TRY_FMT of type 1 take any width and height, and answer with the nearest of those that the sheet allows, the
  * smaller of two that are as near. It is found by arithmetic, not by a search: a client may try as many as it likes.
  *
+ * S_CROP takes any rectangle. Its sizes are brought to 1 or more and into the bounds, its left and top to the nearest place at
+ * which it lies inside them; then its top goes up to an even number of lines below that of the bounds, so that the fields of
+ * a picture keep their order. The crop at opening is the sheet's default with its top moved so: G_CROP may tell another top than
+ * CROPCAP, which tells the default as the sheet has it.
+ *
  * The services of caption lines, and the lines that carry them (33 in all):
  *
  *     0x0001 Teletext B    lines 7 to 22 of both fields       0x1000 Caption 525   line 21 of both fields
@@ -57,7 +62,7 @@ struct tg_setup {
         uint32_t line; /* bytes in a line of the first plane */
         uint32_t size; /* bytes in an image */
     } format;
-    struct { /* the crop rectangle in force */
+    struct { /* the crop rectangle in force; its top is an even number of lines below that of the bounds */
         int32_t left;
         int32_t top;
         int32_t width;

@@ -233,7 +233,7 @@ static void settings(void)
     expect("format.code", YUYV, s->setup.format.code);
     expect("format.line", LINE, s->setup.format.line);
     expect("format.size", IMAGE, s->setup.format.size);
-    expect("S_CROP", 0, simple(S_CROP, 1, 20, 30, 500, 300));
+    expect("S_CROP", 0, simple(S_CROP, 1, 20, 31, 500, 300));
     expect("crop.left", 20, (uint32_t)s->setup.crop.left);
     expect("crop.top", 30, (uint32_t)s->setup.crop.top);
     expect("crop.width", 500, (uint32_t)s->setup.crop.width);

@@ -1,8 +1,8 @@
-// The bench: a small good sheet, the same with odd tops, and the length of a picture memory, for examples and runs of every layer.
+// The bench: a small good sheet, and the same with odd tops, for examples and runs of every layer.
 ghost use mathlib.Core.Path.{_≡_};
 ghost use mathlib.Core.Bool.{true};
 ghost use Rattle.sheet_rules.specs.Rules.{goodSheet};
-ghost use Rattle.bench_sheet.specs.Bench.{benchSheet, oddSheet, benchMemory};
+ghost use Rattle.bench_sheet.specs.Bench.{benchSheet, oddSheet};
 
 // A line for each field or row of words: contents, identity, two formats, geometry, one control.
 const SHEET: [u8; 324] = *b"\
@@ -44,11 +44,4 @@ pub fn odd_sheet() -> Bytes
     wire_store::put_word(&mut bytes, 236, 0xffff_fffa);
     wire_store::put_word(&mut bytes, 244, 399);
     bytes
-}
-
-// The length of the picture memory.
-pub fn memory_length() -> usize
-    ensures { λ r. ⌜ r ≡ benchMemory ⌝ }
-{
-    1048576
 }

@@ -62,15 +62,15 @@ topIn b a = fieldsApart (b .top) (clampedTop b a)
 unfoldable pub clamped : Rect → Rect → Rect
 clamped b a = record { left = leftIn b a; top = topIn b a; width = widthIn b a; height = heightIn b a }
 
--- the crop at opening (A4): the sheet's default, taken as if it had been asked for
+-- a rectangle of which only the top is moved so
+abbrev pub topApart : Rect → Rect → Rect
+topApart b a = record { left = a .left; top = fieldsApart (b .top) (a .top); width = a .width; height = a .height }
+
+-- the crop at opening (A4): the sheet's default, taken as if it had been asked for; of a good sheet's only the top is moved
 unfoldable pub openingCrop : List ℕ → Rect
 openingCrop s = clamped (cropBounds s) (cropDefault s)
 
 -- ---- for the laws
-
--- a rectangle with its top at an even distance from that of bounds b, and else as it is
-abbrev pub topApart : Rect → Rect → Rect
-topApart b a = record { left = a .left; top = fieldsApart (b .top) (a .top); width = a .width; height = a .height }
 
 -- p is the last number up to x at an even distance from start
 pub record LastEven (start x p : ℤ) : Type 0 where
