@@ -14,19 +14,19 @@ use Rattle.crop_rules.proofs.Clamping.{Counted, clamp-count, clamp-from
 
 -- ---- an even number of lines
 
-pub even-even : (n : ℕ) → evenDown n % 2 ≡ 0
+even-even : (n : ℕ) → evenDown n % 2 ≡ 0
 unfolding evenDown
 even-even n = omega arith
 
-pub even-below : (n : ℕ) → evenDown n ≤ n
+even-below : (n : ℕ) → evenDown n ≤ n
 unfolding evenDown
 even-below n = omega arith
 
-pub even-last : (m n : ℕ) → m % 2 ≡ 0 → m ≤ n → m ≤ evenDown n
+even-last : (m n : ℕ) → m % 2 ≡ 0 → m ≤ n → m ≤ evenDown n
 unfolding evenDown
 even-last m n e h = omega arith
 
-pub even-stays : (n : ℕ) → n % 2 ≡ 0 → evenDown n ≡ n
+even-stays : (n : ℕ) → n % 2 ≡ 0 → evenDown n ≡ n
 unfolding evenDown
 even-stays n e = omega arith
 
@@ -46,7 +46,7 @@ further k n x h = let s = simp add-zero at (above-sum k 0 x (pos n) h (omega ari
 
 module _ (start at : ℤ) (down : leZ start at ≡ true) where
   -- counted from -k, its distance from the start is made even
-  pub apart-count : (k : ℕ) → under start ≤ k → under at ≤ k → Counted k (fieldsApart start at) (above k start + evenDown (above k at - above k start))
+  apart-count : (k : ℕ) → under start ≤ k → under at ≤ k → Counted k (fieldsApart start at) (above k start + evenDown (above k at - above k start))
   unfolding fieldsApart
   apart-count k hs ha =
       let l = le-counts k start at hs ha down in

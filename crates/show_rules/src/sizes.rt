@@ -63,15 +63,11 @@ pub(crate) fn cropped(s: &[u8; 324]) {
 pub(crate) fn opened() {
     let s = bench_sheet::odd_sheet();
     told(
-        b"odd tops, bounds: left %i, top %i, width %i, height %i\n",
-        sheet_crop::crop_bounds(&s),
-    );
-    told(
-        b"odd tops, default: left %i, top %i, width %i, height %i\n",
+        b"bounds top -7, default: left %i, top %i, width %i, height %i\n",
         sheet_crop::crop_default(&s),
     );
     told(
-        b"odd tops, crop at opening: left %i, top %i, width %i, height %i\n",
+        b"bounds top -7, crop at opening: left %i, top %i, width %i, height %i\n",
         crop_rules::opening_crop(&s),
     );
 }
