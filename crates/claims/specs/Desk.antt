@@ -64,7 +64,7 @@ chosen s q SCtrl a b = cond (eqb (named s a .kind) 4) q (record { format = q .fo
 chosen s q Queryctrl a b = q
 chosen s q Cropcap a b = q
 chosen s q GCrop a b = q
--- the rectangle asked, brought inside the bounds
+-- the rectangle asked, brought inside the bounds, its top at an even distance
 chosen s q SCrop a b = record { format = q .format; crop = clamped (cropBounds s) (askedCrop a); values = q .values; services = q .services }
 chosen s q GSlicedVbiCap a b = q
 

@@ -43,7 +43,7 @@ pub fn g_crop(setup: &SetupWords, argument: &mut [u8]) -> u32
     0
 }
 
-// Another crop, brought inside the bounds. The request is write-only: its argument stays.
+// Another crop, brought inside the bounds, with the fields apart. The request is write-only: its argument stays.
 pub fn s_crop(sheet: &[u8], setup: &mut SetupWords, argument: &[u8]) -> u32
     ensures { λ r. ⌜ ((d : State) → answer r (withSetup d (setupIn (now (setup .exit)))) (now (argument .entry))
         ≡ sCropOf (now (sheet .entry)) (withSetup d (setupIn (now (setup .entry)))) (now (argument .entry))) ⌝ }

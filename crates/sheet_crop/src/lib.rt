@@ -24,7 +24,7 @@ pub fn crop_bounds(s: &[u8]) -> Rect
     rect_at(s, sheet_contents::geometry_at(s) + 28)
 }
 
-// The crop at opening.
+// The default rectangle, as the sheet has it.
 pub fn crop_default(s: &[u8]) -> Rect
     ensures { λ r. ⌜ r ≡ cropDefault (now (s .entry)) ⌝ }
 {
