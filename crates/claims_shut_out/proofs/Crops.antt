@@ -4,8 +4,9 @@ use mathlib.Core.Bool.{true, false, false≢true}
 use Prim.Native.Nat.{ℕ, _%_}
 use native.Mathlib.Omega.{arith}
 use mathlib.Core.List.{List, [], _∷_}
-use lib.IntN.{ℤ}
+use lib.IntN.{ℤ, negsuc, natAbs}
 use lib.Signed.{leZ}
+use Rattle.wire_read.specs.Lists.{any}
 use Rattle.wire_read.specs.Words.{wordAt, le32, bytesOf}
 use Rattle.wire_signed.specs.Signed.{signed, bits, signedAt, above, distance}
 use Rattle.ioctl_table.specs.Table.{requestOf, callOf, knownWords}
@@ -14,21 +15,22 @@ use Rattle.sheet_contents.specs.Contents.{geometryAt}
 use Rattle.sheet_geometry.specs.Geometry.{rectAt, cropBounds, cropDefault}
 use Rattle.sheet_geometry.specs.declared.Rect.{Rect}
 use Rattle.sheet_rules.specs.Rules.{insideOk, defaultOk}
-use Rattle.crop_rules.specs.Crop.{minZ, maxZ, clampZ, sizeIn, clampedPlace, evenDown, fieldsApart, widthIn, heightIn, leftIn, clampedTop, topIn, clamped}
+use Rattle.crop_rules.specs.Crop.{minZ, maxZ, clampZ, sizeIn, clampedPlace, evenDown, fieldsApart, widthIn, heightIn, leftIn, clampedTop, topIn, clamped, openingCrop}
 use Rattle.crop_rules.proofs.Laws.{inside-up}
 use Rattle.crop_replies.specs.Replies.{cropReply}
 use Rattle.crop_calls.specs.Crops.{askedCrop}
 use Rattle.claims.specs.Calls.{Kind, Call}
 use Rattle.claims.specs.Calls.Call.{request}
 use Rattle.claims.specs.Machine.{Session, Machine, more}
-use Rattle.claims_together.specs.Crops.{CropTold, cropIn, boundsIn}
+use Rattle.claims_together.specs.Crops.{CropTold, cropIn, boundsIn, SetsNoCrop}
+use Rattle.claims_together.proofs.Switched.{callIn}
 use Rattle.claims_together.proofs.Waiting.{by-call}
 use Rattle.claims_together.proofs.Crops.{bounds-are}
 use Rattle.claims_together.proofs.Meets.{device-meets}
 use Rattle.bench_sheet.specs.Bench.{oddSheet}
 use Rattle.bench_sheet.proofs.Good.{odd-good}
-use Rattle.claims_shut_out.specs.Faults.{FieldsMixed, TopLowered, Out}
-use Rattle.claims_shut_out.specs.Wrong.{ours, place, cropAfter, cropping, asItIs, inside, apartFirst, evenItself, evenUp, openingLeftOut, notRounded, roundedFirst, topItself, roundedUp}
+use Rattle.claims_shut_out.specs.Faults.{FieldsMixed, TopLowered, CropMoved, Out}
+use Rattle.claims_shut_out.specs.Wrong.{ours, place, cropAfter, cropping, asItIs, inside, apartFirst, evenItself, evenUp, openingLeftOut, notRounded, roundedFirst, topItself, roundedUp, setsFormat, forgotten, cropForgotten}
 use Rattle.claims_shut_out.proofs.Played.{dark, dark-long}
 
 -- ---- no machine has them
@@ -40,6 +42,9 @@ pub top-lowered : Out TopLowered
 top-lowered M (s, m, cs, w, a, call, z, t, within, lower) meets =
     let set = meets .fields-apart s m .set cs w a call z t in
     false≢true (sym lower ∙ ap (λ (r : Rect). leZ (r .top) (askedCrop a .top)) set ∙ inside-up (boundsIn (M s m) (more cs (request w a)) t) (askedCrop a) within)
+
+pub crop-moved : Out CropMoved
+crop-moved M (s, m, cs, c, none, t, u, moved) meets = moved (meets .fields-apart s m .stays cs c none t u)
 
 -- ---- there are devices that have them, on the sheet with odd tops
 
@@ -128,3 +133,38 @@ rounds-itself = mixes clamped evenItself (request 0x4014563C (crop 0xFFFFFFFB 30
 pub rounds-up : TopLowered roundedUp
 unfolding oddSheet requestOf callOf knownWords wordAt le32 bytesOf signed bits signedAt above distance geometryAt rectAt cropBounds cropDefault cropReply askedCrop insideOk defaultOk minZ maxZ clampZ sizeIn clampedPlace widthIn heightIn leftIn clampedTop
 rounds-up = lowers clamped evenUp (crop 0xFFFFFFFA 300) (by-call oddSheet dark Kind.pictures S (device-meets .demand-1 oddSheet dark) [] 0x4014563C (crop 0xFFFFFFFA 300) SCrop refl ∙ rw opened) refl refl
+
+-- ---- a crop that an S_FMT moves
+
+abbrev cropped : List Call
+cropped = request 0x4014563C (crop 0xFFFFFFFB 300) ∷ []
+
+-- S_FMT is no S_CROP
+sets-no-crop : (T : Session) (cs : List Call) (b : List ℕ) → SetsNoCrop T cs (request 0xC0CC5605 b)
+unfolding requestOf callOf knownWords
+sets-no-crop T cs b w a e is z = omega (arith, ap place (ap callIn e ∙ is))
+
+sets-crop : S .request [] 0x4014563C (crop 0xFFFFFFFB 300) .number ≡ 0
+unfolding requestOf callOf knownWords wordAt le32 bytesOf
+sets-crop = by-call oddSheet dark Kind.pictures S (device-meets .demand-1 oddSheet dark) [] 0x4014563C (crop 0xFFFFFFFB 300) SCrop refl ∙ rw opened
+
+-- top -5 is told before it, and -7, that of the opening, behind it
+told-before : signedAt (S .request cropped 0xC014563B (crop 0 0) .argument) 8 ≡ negsuc 4
+unfolding asks requestOf callOf knownWords oddSheet wordAt le32 bytesOf signed bits signedAt above distance geometryAt rectAt cropBounds askedCrop minZ maxZ clampZ sizeIn clampedPlace evenDown fieldsApart widthIn heightIn leftIn clampedTop topIn clamped
+told-before =
+    ap (λ (r : Rect). r .top)
+    (device-meets .fields-apart oddSheet dark .set [] 0x4014563C (crop 0xFFFFFFFB 300) refl sets-crop (asks S cropped (gets cropped) (gets-limits cropped)) ∙ ap (λ (b : Rect). clamped b (askedCrop (crop 0xFFFFFFFB 300))) (bounds-told cropped))
+
+told-behind : rectAt (cropReply (openingCrop oddSheet)) 4 .top ≡ negsuc 6
+unfolding oddSheet wordAt le32 bytesOf signed bits signedAt above distance geometryAt rectAt cropBounds cropDefault cropReply minZ maxZ clampZ sizeIn clampedPlace evenDown fieldsApart widthIn heightIn leftIn clampedTop topIn clamped openingCrop
+told-behind = refl
+
+pub forgets : CropMoved cropForgotten
+unfolding asks requestOf callOf knownWords any rectAt
+forgets =
+    let T : Session = cropForgotten oddSheet dark in
+    let c : Call = request 0xC0CC5605 [] in
+    (oddSheet, dark, cropped, c, sets-no-crop T cropped [], asks T cropped (gets cropped) (gets-limits cropped), asks T (more cropped c) (gets (more cropped c)) (gets-limits (more cropped c)), moved)
+  where
+    moved : rectAt (cropReply (openingCrop oddSheet)) 4 ≡ rectAt (S .request cropped 0xC014563B (crop 0 0) .argument) 4 → ⊥
+    moved e = omega (arith, ap natAbs (sym told-behind ∙ ap (λ (r : Rect). r .top) e ∙ told-before))

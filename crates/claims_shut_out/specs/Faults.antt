@@ -28,7 +28,7 @@ use Rattle.claims.specs.Words.{paperIn}
 use Rattle.claims.specs.Table.{arrivalNumber}
 use Rattle.claims_together.specs.Waiting.{Starts, Ends, InForce}
 use Rattle.claims_together.specs.Sizes.{Negotiates}
-use Rattle.claims_together.specs.Crops.{CropTold, cropIn, boundsIn}
+use Rattle.claims_together.specs.Crops.{CropTold, cropIn, boundsIn, SetsNoCrop}
 use Rattle.claims_together.specs.Meets.{Meets}
 
 -- the argument of S_CROP with left 0 for its left
@@ -158,6 +158,11 @@ module _ (M : Machine) where
       × (t : CropTold (M s m) (more cs (request w a)))
       × (defaultOk (boundsIn (M s m) (more cs (request w a)) t) (askedCrop a) ≡ true) × (leZ (cropIn (M s m) (more cs (request w a)) t .top) (askedCrop a .top) ≡ false)
 
+  -- some call that is no accepted S_CROP changes what G_CROP tells
+  abbrev pub CropMoved : Type 0
+  CropMoved = (s : List ℕ) × (m : Kind → List ℕ) × (cs : List Call) × (c : Call) × SetsNoCrop (M s m) cs c × (t : CropTold (M s m) cs) × (u : CropTold (M s m) (more cs c))
+      × (cropIn (M s m) (more cs c) u ≢ cropIn (M s m) cs t)
+
   -- ---- of two streams
 
   -- some QBUF of captions puts its index among the pictures: one of pictures was accepted before it, and is not behind it
@@ -215,6 +220,7 @@ pub record ShutOut : Type 0 where
   pub from-above : Out FromAbove
   pub fields-mixed : Out FieldsMixed
   pub top-lowered : Out TopLowered
+  pub crop-moved : Out CropMoved
   pub streams-mixed : Out StreamsMixed
   pub held-up : Out HeldUp
   pub twice-taken : Out TwiceTaken

@@ -1,6 +1,6 @@
 -- Wrong devices, each like ours but for one thing.
 use Prim.Native.Nat.{ℕ, zero, suc, _+_, _-_, _/_, _%_, min}
-use mathlib.Core.Bool.{cond, not, _&&_, _||_}
+use mathlib.Core.Bool.{Bool, false, cond, not, _&&_, _||_}
 use mathlib.Core.List.{List, [], _∷_, map}
 use lib.Dec.{eqb}
 use lib.ListN.{replicate, take, drop}
@@ -15,7 +15,7 @@ use Rattle.ioctl_table.specs.declared.table.Call.the-variants.{Unknown, Queryca
 use Rattle.sheet_geometry.specs.Geometry.{widthsOf, cropBounds, cropDefault}
 use Rattle.sheet_geometry.specs.declared.Range.{Range}
 use Rattle.sheet_geometry.specs.declared.Rect.{Rect}
-use Rattle.crop_rules.specs.Crop.{clampedPlace, fieldsApart, widthIn, heightIn, leftIn, clampedTop, clamped}
+use Rattle.crop_rules.specs.Crop.{clampedPlace, fieldsApart, widthIn, heightIn, leftIn, clampedTop, clamped, openingCrop}
 use Rattle.crop_replies.specs.Replies.{cropReply}
 use Rattle.crop_calls.specs.Crops.{askedCrop}
 use Rattle.stream_slots.specs.Slot.{slotOffset}
@@ -33,7 +33,7 @@ use Rattle.claims.specs.Machine.{Session, Machine, Given, more}
 use Rattle.claims.specs.Words.{paperIn}
 use Rattle.claims_together.specs.Meets.{Meets}
 use Rattle.claims.specs.Device.{machineOf, ourDevice}
-use Rattle.claims_shut_out.specs.Faults.{leftZero, NeverOpens, AllRefusing, GrantsNone, GrantsFewer, ConstantVerdict, AlwaysComplete, NeverComplete, IdleArrival, LaterPretend, InventedTotals, TryEchoes, OddRefused, LeftRaised, FailedCounted, StoredNumbered, YoungestFirst, SoonWhenStopped, NeverSoon, UnknownInvalid, TieUp, GreatestMissed, FromAbove, FieldsMixed, TopLowered, StreamsMixed, HeldUp, TwiceTaken, AllTypes, OneVerdict}
+use Rattle.claims_shut_out.specs.Faults.{leftZero, NeverOpens, AllRefusing, GrantsNone, GrantsFewer, ConstantVerdict, AlwaysComplete, NeverComplete, IdleArrival, LaterPretend, InventedTotals, TryEchoes, OddRefused, LeftRaised, FailedCounted, StoredNumbered, YoungestFirst, SoonWhenStopped, NeverSoon, UnknownInvalid, TieUp, GreatestMissed, FromAbove, FieldsMixed, TopLowered, CropMoved, StreamsMixed, HeldUp, TwiceTaken, AllTypes, OneVerdict}
 
 -- our device
 abbrev pub ours : Machine
@@ -201,6 +201,17 @@ abbrev pub cropping : (Rect → Rect → Rect) → (Rect → Rect → Rect) → 
 cropping first g s m =
     let telling : List Call → List ℕ → Given → Given = λ cs a r. record { number = r .number; argument = cropReply (cropAfter (g (cropBounds s)) (first (cropBounds s) (cropDefault s)) cs) } in
     withRequest (ours s m) (λ cs w a. only GCrop (telling cs) (requestOf w .call) a (ours s m .request cs w a))
+
+-- once a format was asked for, G_CROP tells the crop at opening
+abbrev pub setsFormat : Call → Bool
+setsFormat (request w a) = eqb (place (requestOf w .call)) (place SFmt)
+setsFormat (arrival t f x y other) = false
+
+abbrev pub forgotten : List ℕ → List Call → List ℕ → Given → Given
+forgotten s cs a r = cond (any setsFormat cs) (record { number = r .number; argument = cropReply (openingCrop s) }) r
+
+abbrev pub cropForgotten : Machine
+cropForgotten s m = withRequest (ours s m) (λ cs w a. only GCrop (forgotten s cs) (requestOf w .call) a (ours s m .request cs w a))
 
 -- opening takes the default as it is
 abbrev pub asItIs : Rect → Rect → Rect
@@ -463,6 +474,7 @@ pub record WrongDevices : Type 0 where
   pub rounded-first : Wrong FieldsMixed roundedFirst
   pub top-itself : Wrong FieldsMixed topItself
   pub rounded-up : Wrong TopLowered roundedUp
+  pub crop-forgotten : Wrong CropMoved cropForgotten
   pub streams-mixed : Wrong StreamsMixed streamsMixed
   pub held-up : Wrong HeldUp heldUp
   pub twice-taken : Wrong TwiceTaken twiceTaken

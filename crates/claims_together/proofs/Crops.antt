@@ -1,7 +1,9 @@
 -- The crop keeps the fields apart: of every session that meets demand 1 and the answers. Assumes nothing.
 use Prim.Native.Nat.{ℕ, _%_}
 use mathlib.Core.Path.{_≡_, refl, sym, ap, ap₂, _∙_, subst}
-use mathlib.Core.Bool.{Bool, true, false, cond, not}
+use mathlib.Core.Logic.{_⊎_, inl, inr, ⊎-elim}
+use mathlib.Core.Bool.{Bool, true, false, cond}
+use borrow.Author.Tests.{eqb-true}
 use mathlib.Core.List.{List, [], _∷_}
 use lib.Dec.{eqb}
 use lib.ListN.{length}
@@ -29,45 +31,70 @@ use Rattle.claims.specs.Desk.{Desk, openingDesk, chosen, choice, deskIn}
 use Rattle.claims.specs.Answers.{answerOn}
 use Rattle.claims.specs.Demands.{Demand1, Answers}
 use Rattle.claims.proofs.Sessions.{every, desk-more}
-use Rattle.claims_together.specs.Crops.{CropTold, cropIn, boundsIn, defaultIn, FieldsApart}
+use Rattle.claims_together.specs.Crops.{CropTold, cropIn, boundsIn, defaultIn, SetsNoCrop, FieldsApart}
 use Rattle.claims_together.proofs.Waiting.{by-call}
 use Rattle.claims_together.proofs.Sizes.{good}
 
--- ---- the crop on the desk was always taken in the bounds
+-- ---- the crop on the desk
+
+-- one of two desks that have this crop
+either : (r : Rect) (x : Bool) (y z : Desk) → y .crop ≡ r → z .crop ≡ r → cond x y z .crop ≡ r
+either r true y z e f = e
+either r false y z e f = f
+
+module _ (s : List ℕ) (q : Desk) where
+  -- a request leaves it, or it is S_CROP
+  crop-left : (c : Asked) (a b : List ℕ) → (chosen s q c a b .crop ≡ q .crop) ⊎ (c ≡ SCrop)
+  crop-left Unknown a b = inl refl
+  crop-left Querycap a b = inl refl
+  crop-left EnumFmt a b = inl refl
+  crop-left GFmt a b = inl refl
+  crop-left SFmt a b = inl (either (q .crop) (eqb (wordAt a 0) 6) _ _ refl refl)
+  crop-left TryFmt a b = inl refl
+  crop-left Reqbufs a b = inl refl
+  crop-left Querybuf a b = inl refl
+  crop-left Qbuf a b = inl refl
+  crop-left Dqbuf a b = inl refl
+  crop-left Streamon a b = inl refl
+  crop-left Streamoff a b = inl refl
+  crop-left GCtrl a b = inl refl
+  crop-left SCtrl a b = inl (either (q .crop) (eqb (named s a .kind) 4) _ _ refl refl)
+  crop-left Queryctrl a b = inl refl
+  crop-left Cropcap a b = inl refl
+  crop-left GCrop a b = inl refl
+  crop-left SCrop a b = inr refl
+  crop-left GSlicedVbiCap a b = inl refl
+
+-- a call that is no accepted S_CROP leaves it
+crop-stays : (s : List ℕ) (S : Session) (cs : List Call) (c : Call) → SetsNoCrop S cs c → deskIn s S (more cs c) .crop ≡ deskIn s S cs .crop
+crop-stays s S cs c none = ap (λ (q : Desk). q .crop) (desk-more s S cs c) ∙ by-call-made c none
+  where
+    answered-with : (w : ℕ) (a : List ℕ) → SetsNoCrop S cs (request w a) → (x : Bool) → eqb (S .request cs w a .number) 0 ≡ x
+        → cond x (chosen s (deskIn s S cs) (requestOf w .call) a (S .request cs w a .argument)) (deskIn s S cs) .crop ≡ deskIn s S cs .crop
+    answered-with w a none true e =
+        ⊎-elim (λ l. l) (λ is. absurd (none w a refl is (eqb-true (S .request cs w a .number) 0 e))) (crop-left s (deskIn s S cs) (requestOf w .call) a (S .request cs w a .argument))
+    answered-with w a none false e = refl
+
+    by-call-made : (c : Call) → SetsNoCrop S cs c → choice s (deskIn s S cs) c (replyIn S cs c) .crop ≡ deskIn s S cs .crop
+    by-call-made (request w a) none = answered-with w a none (eqb (S .request cs w a .number) 0) refl
+    by-call-made (arrival t f x y other) none = refl
+
+-- ---- it was always taken in the bounds
 
 -- some rectangle was, and this is what became of it
 abbrev Taken : List ℕ → Rect → Type 0
 Taken s r = (a : Rect) × (r ≡ clamped (cropBounds s) a)
 
 module _ (s : List ℕ) (q : Desk) (before : Taken s (q .crop)) where
-  -- a request that sets something else leaves it
-  left : (x : Bool) (y z : Desk) → Taken s (y .crop) → Taken s (z .crop) → Taken s (cond x y z .crop)
-  left true y z h k = h
-  left false y z h k = k
-
   taken-call : (c : Asked) (a b : List ℕ) → Taken s (chosen s q c a b .crop)
-  taken-call Unknown a b = before
-  taken-call Querycap a b = before
-  taken-call EnumFmt a b = before
-  taken-call GFmt a b = before
-  taken-call SFmt a b = left (eqb (wordAt a 0) 6) _ _ before before
-  taken-call TryFmt a b = before
-  taken-call Reqbufs a b = before
-  taken-call Querybuf a b = before
-  taken-call Qbuf a b = before
-  taken-call Dqbuf a b = before
-  taken-call Streamon a b = before
-  taken-call Streamoff a b = before
-  taken-call GCtrl a b = before
-  taken-call SCtrl a b = left (eqb (named s a .kind) 4) _ _ before before
-  taken-call Queryctrl a b = before
-  taken-call Cropcap a b = before
-  taken-call GCrop a b = before
-  taken-call SCrop a b = (askedCrop a, refl)
-  taken-call GSlicedVbiCap a b = before
+  taken-call c a b = ⊎-elim (λ e. (before .0, e ∙ before .1)) (λ e. (askedCrop a, ap (λ (x : Asked). chosen s q x a b .crop) e)) (crop-left s q c a b)
+
+  taken-either : (x : Bool) (y z : Desk) → Taken s (y .crop) → Taken s (z .crop) → Taken s (cond x y z .crop)
+  taken-either true y z h k = h
+  taken-either false y z h k = k
 
   taken-choice : (c : Call) (r : Reply) → Taken s (choice s q c r .crop)
-  taken-choice (request w a) (answered n b) = left (eqb n 0) _ _ (taken-call (requestOf w .call) a b) before
+  taken-choice (request w a) (answered n b) = taken-either (eqb n 0) _ _ (taken-call (requestOf w .call) a b) before
   taken-choice (request w a) (taken r) = before
   taken-choice (arrival t f x y other) r = before
 
@@ -141,4 +168,5 @@ module _ (s : List ℕ) (m : Kind → List ℕ) (S : Session) (d : Demand1 s m S
         crop-is (more cs (request w a)) t
         ∙ chosen-crop cs w a e z
         ∙ ap (λ (b : Rect). clamped b (askedCrop a)) (sym (bounds-are (more cs (request w a)) t));
+    stays = λ cs c none t u. crop-is (more cs c) u ∙ crop-stays s S cs c none ∙ sym (crop-is cs t);
   }

@@ -40,6 +40,10 @@ module _ (S : Session) (cs : List Call) (t : CropTold S cs) where
   abbrev pub defaultIn : Rect
   defaultIn = rectAt (S .request cs (t .limits-word) (t .limits-argument) .argument) 20
 
+-- a call made after these that is no accepted S_CROP
+abbrev pub SetsNoCrop : Session → List Call → Call → Type 0
+SetsNoCrop S cs c = (w : ℕ) (a : List ℕ) → c ≡ request w a → requestOf w .call ≡ SCrop → S .request cs w a .number ≡ 0 → ⊥
+
 pub record FieldsApart (S : Session) : Type 0 where
   -- a device that was opened tells its crop whenever it is asked, and its bounds and default
   pub told : (cs : List Call) (w : ℕ) (a : List ℕ) → S .opening ≡ 0 → requestOf w .call ≡ GCrop → length a ≡ 20 → wordAt a 0 ≡ typeOf Kind.pictures → S .request cs w a .number ≡ 0
@@ -53,3 +57,5 @@ pub record FieldsApart (S : Session) : Type 0 where
   -- after an S_CROP it is what the rules of a crop make of the rectangle that was asked for
   pub set : (cs : List Call) (w : ℕ) (a : List ℕ) → requestOf w .call ≡ SCrop → S .request cs w a .number ≡ 0 → (t : CropTold S (more cs (request w a)))
       → cropIn S (more cs (request w a)) t ≡ clamped (boundsIn S (more cs (request w a)) t) (askedCrop a)
+  -- and every other call leaves it as it was
+  pub stays : (cs : List Call) (c : Call) → SetsNoCrop S cs c → (t : CropTold S cs) (u : CropTold S (more cs c)) → cropIn S (more cs c) u ≡ cropIn S cs t

@@ -4,7 +4,7 @@ use Rattle.claims_shut_out.proofs.Film.{idle-arrival, later-pretend, st
 use Rattle.claims_shut_out.proofs.Complete.{never-complete}
 use Rattle.claims_shut_out.proofs.Stopped.{soon-when-stopped, never-soon, unknown-invalid}
 use Rattle.claims_shut_out.proofs.Sizes.{tie-up, greatest-missed, from-above}
-use Rattle.claims_shut_out.proofs.Crops.{fields-mixed, top-lowered}
+use Rattle.claims_shut_out.proofs.Crops.{fields-mixed, top-lowered, crop-moved}
 use Rattle.claims_shut_out.proofs.Streams.{streams-mixed, held-up, twice-taken, all-types, one-verdict}
 use Rattle.claims_shut_out.proofs.shut_out.Statement.{statement}
 use Rattle.claims_shut_out.proofs.shut_out.Tie as tie
@@ -38,6 +38,7 @@ returns c = (
     from-above = from-above;
     fields-mixed = fields-mixed;
     top-lowered = top-lowered;
+    crop-moved = crop-moved;
     streams-mixed = streams-mixed;
     held-up = held-up;
     twice-taken = twice-taken;
