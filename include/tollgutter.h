@@ -150,6 +150,38 @@ uint32_t tg_verdict(const struct tg_device *d, uint32_t type);
 /* Where a plane of a picture of the present format lies; planes count from 0. */
 struct tg_plane tg_plane(const struct tg_device *d, size_t frame_length, uint32_t plane);
 
+/* Caption lines inside a film: the packing of struct v4l2_mpeg_vbi_fmt_ivtv, written and read. No device takes part. A block
+ * has
+ *   - of fewer than 36 lines: the letters itv0, two little-endian masks of 32 bits, then the lines that are present;
+ *   - of all 36: the letters ITV0, then the lines.
+ * Bits 0 to 17 of the masks are lines 6 to 23 of the first field, bits 18 to 35 the same of the second; the first mask has
+ * bits 0 to 31. Lines stand in the order of their bits, 43 bytes each: an identifier, then 42 bytes, of which those that the
+ * service does not carry are zero.
+ *
+ *     service        0x0001 Teletext B   0x0400 VPS   0x1000 Caption 525   0x4000 WSS 625
+ *     identifier             1                7                4                  5
+ *     bytes carried         42               13                2                  2
+ *
+ * Any service may stand on any of the 36 lines. Each set of lines has one block; that of no line has 12 bytes. */
+
+/* The bytes of a block of n lines: 12 + 43 n for n below 36, and 1,552 for 36. More lines have no block: 0. */
+size_t tg_vbi_block_length(size_t lines);
+
+/* Writes a block. The lines are records of 64 bytes as in tg_arrival, none or more, in any order; their reserved words, and
+ * the payload that a service does not carry, may hold anything. 0; or 22, and nothing is written, if
+ *   - the length of the lines is no multiple of 64, or a service is not exactly one of the four;
+ *   - a field is not 0 or 1, a line is not in 6 to 23, or a line of a field comes twice;
+ *   - the block has not exactly the length of so many lines. */
+uint32_t tg_vbi_pack(const uint8_t *lines, size_t lines_length, uint8_t *block, size_t block_length);
+
+/* Reads a block. The records come in the order of their bits; in them the reserved word, and the payload that the service
+ * does not carry, is zero. 0; or 22, and nothing is written, if
+ *   - the block opens with other letters, a bit above 35 is set, or all 36 bits are set behind itv0;
+ *   - an identifier is not one of the four, or a byte that the service does not carry is not zero;
+ *   - the block has not exactly the length of the lines that it tells of (bytes that fill up its end are not taken), or the
+ *     lines that are lent have not exactly 64 bytes for each of these. */
+uint32_t tg_vbi_unpack(const uint8_t *block, size_t block_length, uint8_t *lines, size_t lines_length);
+
 #ifdef __cplusplus
 }
 #endif

@@ -1,5 +1,6 @@
 //! How the two sides are called: as a program calls a library, by a call that stays a call.
 
+use tollgutter_tests::packing::{Model, Packer};
 use tollgutter_tests::recorder::{Arrived, Recorder};
 use tollgutter_tests::{ffi, model};
 
@@ -66,4 +67,44 @@ fn rust_arrival(
     microseconds: i32,
 ) -> Arrived {
     device.arrival(kind, memory, frame, seconds, microseconds)
+}
+
+/// A packer and its two calls that are measured.
+pub trait CalledPacker: Packer {
+    fn call_pack(&self, lines: &[u8], block: &mut [u8]) -> u32;
+    fn call_unpack(&self, block: &[u8], lines: &mut [u8]) -> u32;
+}
+
+impl CalledPacker for ffi::Packing {
+    #[inline(always)]
+    fn call_pack(&self, lines: &[u8], block: &mut [u8]) -> u32 {
+        self.pack(lines, block)
+    }
+
+    #[inline(always)]
+    fn call_unpack(&self, block: &[u8], lines: &mut [u8]) -> u32 {
+        self.unpack(block, lines)
+    }
+}
+
+impl CalledPacker for Model {
+    #[inline(always)]
+    fn call_pack(&self, lines: &[u8], block: &mut [u8]) -> u32 {
+        rust_pack(lines, block)
+    }
+
+    #[inline(always)]
+    fn call_unpack(&self, block: &[u8], lines: &mut [u8]) -> u32 {
+        rust_unpack(block, lines)
+    }
+}
+
+#[inline(never)]
+fn rust_pack(lines: &[u8], block: &mut [u8]) -> u32 {
+    Model.pack(lines, block)
+}
+
+#[inline(never)]
+fn rust_unpack(block: &[u8], lines: &mut [u8]) -> u32 {
+    Model.unpack(block, lines)
 }

@@ -10,6 +10,7 @@ mod arrivals;
 mod called;
 mod count;
 mod opening;
+mod packing;
 mod requests;
 mod rounds;
 mod setup;
@@ -36,6 +37,7 @@ fn beside_rust() -> Vec<Table> {
         Table { name: "request, by sizes", other: "Rust", rows: requests::by_sizes() },
         Table { name: "arrival decision, 8 buffers", other: "Rust", rows: arrivals::decisions() },
         Table { name: "opening", other: "Rust", rows: opening::all() },
+        Table { name: "packing", other: "Rust", rows: packing::all() },
     ]
 }
 

@@ -1,5 +1,6 @@
 /* A short session through include/tollgutter.h, in C99 and in C++. It holds the header's struct, field by field, to what
- * the library keeps there, and checks the answers on the way. Prints what failed; exit 0 if nothing did. */
+ * the library keeps there, and checks the answers on the way; then it packs caption lines and reads them back. Prints what
+ * failed; exit 0 if nothing did. */
 #include "tollgutter.h"
 
 #include <stdio.h>
@@ -556,6 +557,96 @@ static void other_types(void)
     expect("captions.length", LINES, box.device.captions.length);
 }
 
+/* What is lent to the packing, one byte in: the byte before and all that are behind stay as they were. */
+static uint8_t packed[1 + 1552 + 1], read_back[1 + 36 * RECORD + 1];
+
+static void clear(void)
+{
+    memset(packed, 0xEE, sizeof packed);
+    memset(read_back, 0xEE, sizeof read_back);
+}
+
+/* So many bytes were written, and none beside them. */
+static void wrote(const char *what, const uint8_t *output, size_t size, size_t length)
+{
+    size_t i;
+    expect(what, 0xEE, output[0]);
+    for (i = 1 + length; i < size; i++) expect(what, 0xEE, output[i]);
+}
+
+/* The load line packed, byte by byte, and read back: what is not carried comes back as zero. */
+static void pack_load(void)
+{
+    static const uint8_t head[15] = {'i', 't', 'v', '0', 0, 0x80, 0, 0, 0, 0, 0, 0, 4, 0x34, 0x12};
+    uint8_t expected[RECORD];
+    int i;
+    clear();
+    expect("length of no line", 12, tg_vbi_block_length(0));
+    expect("length of a line", 55, tg_vbi_block_length(1));
+    expect("length of 35 lines", 1517, tg_vbi_block_length(35));
+    expect("length of all lines", 1552, tg_vbi_block_length(36));
+    expect("length of more lines", 0, tg_vbi_block_length(37));
+    record(frame, LOAD, 0, 21, 0x1234);
+    memcpy(expected, frame, RECORD);
+    put(frame + 12, 0xA5A5A5A5u);
+    memset(frame + 18, 0xA5, RECORD - 18);
+    expect("pack", 0, tg_vbi_pack(frame, RECORD, packed + 1, 55));
+    wrote("pack: bytes outside", packed, sizeof packed, 55);
+    for (i = 0; i < 55; i++) expect("pack: bytes", i < 15 ? head[i] : 0, packed[1 + i]);
+    expect("unpack", 0, tg_vbi_unpack(packed + 1, 55, read_back + 1, RECORD));
+    wrote("unpack: bytes outside", read_back, sizeof read_back, RECORD);
+    expect("unpack: bytes", 0, (uint64_t)memcmp(read_back + 1, expected, RECORD));
+    expect("pack no line", 0, tg_vbi_pack(frame, 0, packed + 1, 12));
+    expect("pack no line: masks", 0, get(packed + 5) | get(packed + 9));
+    expect("unpack no line", 0, tg_vbi_unpack(packed + 1, 12, read_back + 1, 0));
+}
+
+/* A refusal of either writes nothing. */
+static void pack_refused(void)
+{
+    uint8_t block[56];
+    record(frame, LOAD, 0, 21, 0x1234);
+    record(frame + RECORD, 0x0001, 0, 21, 0);
+    expect("pack", 0, tg_vbi_pack(frame, RECORD, block, 55));
+    clear();
+    expect("pack a line twice", 22, tg_vbi_pack(frame, 2 * RECORD, packed + 1, 98));
+    expect("pack part of a record", 22, tg_vbi_pack(frame, RECORD + 1, packed + 1, 55));
+    expect("pack into too little", 22, tg_vbi_pack(frame, RECORD, packed + 1, 54));
+    put(frame + 8, 24);
+    expect("pack line 24", 22, tg_vbi_pack(frame, RECORD, packed + 1, 55));
+    record(frame, 0x1001, 0, 21, 0);
+    expect("pack two services", 22, tg_vbi_pack(frame, RECORD, packed + 1, 55));
+    wrote("pack refused", packed, sizeof packed, 0);
+    block[55] = 0;
+    expect("unpack with a byte at the end", 22, tg_vbi_unpack(block, 56, read_back + 1, RECORD));
+    expect("unpack into too much", 22, tg_vbi_unpack(block, 55, read_back + 1, RECORD + 1));
+    block[54] = 1;
+    expect("unpack what is not zeroed", 22, tg_vbi_unpack(block, 55, read_back + 1, RECORD));
+    block[54] = 0;
+    block[12] = 2;
+    expect("unpack an unknown identifier", 22, tg_vbi_unpack(block, 55, read_back + 1, RECORD));
+    wrote("unpack refused", read_back, sizeof read_back, 0);
+}
+
+/* All lines, the last one first. */
+static void pack_all(void)
+{
+    uint32_t i;
+    clear();
+    for (i = 0; i < 36; i++) record(frame + (35 - i) * RECORD, 0x0001, i / 18, 6 + i % 18, (uint16_t)(i + 1));
+    expect("pack all", 0, tg_vbi_pack(frame, 36 * RECORD, packed + 1, 1552));
+    wrote("pack all: bytes outside", packed, sizeof packed, 1552);
+    expect("pack all: opening", 0, (uint64_t)memcmp(packed + 1, "ITV0", 4));
+    for (i = 0; i < 36; i++) expect("pack all: lines", 1 | (i + 1) << 8, get(packed + 5 + 43 * i));
+    expect("unpack all", 0, tg_vbi_unpack(packed + 1, 1552, read_back + 1, 36 * RECORD));
+    wrote("unpack all: bytes outside", read_back, sizeof read_back, 36 * RECORD);
+    for (i = 0; i < 36; i++) {
+        expect("unpack all: lines", 0, (uint64_t)memcmp(read_back + 1 + i * RECORD, frame + (35 - i) * RECORD, RECORD));
+    }
+    memcpy(packed + 1, "itv0", 4);
+    expect("unpack all behind the other opening", 22, tg_vbi_unpack(packed + 1, 1552, read_back + 1, 36 * RECORD));
+}
+
 int main(void)
 {
     int i;
@@ -574,6 +665,9 @@ int main(void)
     unused();
     outside_a_run();
     planes();
+    pack_load();
+    pack_refused();
+    pack_all();
     for (i = 0; i < GUARD; i++) expect("guards", 0xA5A5, (uint64_t)box.before[i] << 8 | box.behind[i]);
     if (failures) printf("%d failures\n", failures);
     else printf("the header and the library agree\n");

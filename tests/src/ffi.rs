@@ -1,5 +1,6 @@
 //! The library through its C interface.
 
+use crate::packing::Packer;
 use crate::random;
 use crate::recorder::{Arrived, Plane, Recorder};
 
@@ -57,6 +58,9 @@ extern "C" {
     ) -> Arrived;
     fn tg_verdict(d: *const Device, kind: u32) -> u32;
     fn tg_plane(d: *const Device, frame_length: usize, plane: u32) -> Plane;
+    fn tg_vbi_pack(lines: *const u8, lines_length: usize, block: *mut u8, block_length: usize) -> u32;
+    fn tg_vbi_unpack(block: *const u8, block_length: usize, lines: *mut u8, lines_length: usize) -> u32;
+    fn tg_vbi_block_length(lines: usize) -> usize;
 }
 
 impl Device {
@@ -118,5 +122,25 @@ impl Recorder for Device {
 
     fn scramble(&mut self, seed: u64) {
         random::fill(seed, &mut self.bytes);
+    }
+}
+
+/// The packing of caption lines, which needs no device.
+pub struct Packing;
+
+impl Packer for Packing {
+    fn pack(&self, lines: &[u8], block: &mut [u8]) -> u32 {
+        // SAFETY: see above.
+        unsafe { tg_vbi_pack(lines.as_ptr(), lines.len(), block.as_mut_ptr(), block.len()) }
+    }
+
+    fn unpack(&self, block: &[u8], lines: &mut [u8]) -> u32 {
+        // SAFETY: see above.
+        unsafe { tg_vbi_unpack(block.as_ptr(), block.len(), lines.as_mut_ptr(), lines.len()) }
+    }
+
+    fn block_length(&self, lines: usize) -> usize {
+        // SAFETY: nothing is lent.
+        unsafe { tg_vbi_block_length(lines) }
     }
 }

@@ -10,6 +10,7 @@ pub mod generate;
 pub mod guarded;
 pub mod judge;
 pub mod model;
+pub mod packing;
 pub mod random;
 pub mod recorder;
 pub mod runner;

@@ -315,7 +315,7 @@ fn second_opinion<R: Recorder>(device: &mut R, ever: &[u8], frame: &[u8], micros
     }
 }
 
-fn same<A: PartialEq + Debug>(what: &str, expected: &A, got: &A) -> Result<(), Difference> {
+pub fn same<A: PartialEq + Debug>(what: &str, expected: &A, got: &A) -> Result<(), Difference> {
     if expected == got {
         return Ok(());
     }
@@ -323,7 +323,7 @@ fn same<A: PartialEq + Debug>(what: &str, expected: &A, got: &A) -> Result<(), D
 }
 
 /// If the bytes differ: the first place where they do, and the difference.
-fn same_bytes(what: &str, expected: &[u8], got: &[u8]) -> Result<(), (usize, Difference)> {
+pub fn same_bytes(what: &str, expected: &[u8], got: &[u8]) -> Result<(), (usize, Difference)> {
     if expected == got {
         return Ok(());
     }
@@ -332,7 +332,7 @@ fn same_bytes(what: &str, expected: &[u8], got: &[u8]) -> Result<(), (usize, Dif
     Err((at, difference(what, part(expected), part(got))))
 }
 
-fn intact(what: &str, guarded: &Guarded) -> Result<(), Difference> {
+pub fn intact(what: &str, guarded: &Guarded) -> Result<(), Difference> {
     if guarded.intact() {
         return Ok(());
     }

@@ -1,6 +1,6 @@
 -- The records of a frame, one after the other, and the marks of the lines seen so far. Assumes nothing.
 use mathlib.Core.Path.{_≡_, refl, sym, ap, ap₂, _∙_}
-use mathlib.Core.Bool.{Bool, true, false, not, _&&_, _||_, false≢true}
+use mathlib.Core.Bool.{Bool, true, false, not, _&&_, _||_}
 use mathlib.Core.List.{List}
 use Prim.Native.Nat.{ℕ, _+_, _*_, _-_, _≤_, _<_}
 use native.Mathlib.Omega.{arith}
@@ -11,7 +11,7 @@ use lib.Seq.{getD-set-same, getD-set-other}
 use Rattle.wire_read.specs.Words.{wordAt}
 use Rattle.wire_read.proofs.Words.{word-part}
 use Rattle.sheet_rules.specs.Folds.{anyBelow}
-use Rattle.sheet_rules.proofs.Truth.{both, all-at}
+use Rattle.sheet_rules.proofs.Truth.{both, all-not}
 use Rattle.sheet_rules.proofs.Folding.{all-more, any-more}
 use Rattle.service_rules.specs.Services.{has}
 use Rattle.caption_rules.specs.Caption.{isService, idAt, placeOf, placeAt, negotiatedAt, seenBefore, goodRecords}
@@ -56,11 +56,7 @@ module _ (lines f : List ℕ) where
   -- a bad record
   bad-one : (n i : ℕ) → i < n → goodAt lines f i ≡ false → goodRecords lines f n ≡ false
   unfolding goodRecords
-  bad-one n i h e = by (goodRecords lines f n) refl
-    where
-      by : (b : Bool) → goodRecords lines f n ≡ b → goodRecords lines f n ≡ false
-      by true t = absurd (false≢true (sym e ∙ all-at n (goodAt lines f) t i h))
-      by false t = t
+  bad-one n i h e = all-not n (goodAt lines f) i h e
 
   -- what the code tests of a record is what the rule asks of it
   record-tested : (seen : List ℕ) (i p id : ℕ) → p ≡ placeAt f i → id ≡ idAt f i → Marks f i seen

@@ -2,21 +2,14 @@
 use mathlib.Core.Path.{_≡_, refl, sym, _∙_}
 use mathlib.Core.Bool.{Bool, true, false, cond, not, _&&_, false≢true}
 use mathlib.Core.List.{List}
-use Prim.Native.Nat.{ℕ, zero, suc, _/_, _%_, _<_}
-use native.Mathlib.Omega.{arith}
+use Prim.Native.Nat.{ℕ, _/_, _%_, _<_}
 use borrow.Author.Tests.{eqb-true, eq-eqb}
 use lib.Dec.{eqb}
 use lib.ListN.{length}
 use Rattle.stream_words.specs.declared.Time.{Time}
-use Rattle.sheet_rules.specs.Folds.{allBelow}
-use Rattle.sheet_rules.proofs.Truth.{both, denied, all-at, any-at, any-of}
+use Rattle.sheet_rules.proofs.Truth.{both, denied, all-at, all-of, any-at, any-of}
 use Rattle.picture_rules.specs.Picture.{inSecond}
 use Rattle.caption_rules.specs.Caption.{placeAt, negotiatedAt, seenBefore, goodRecords, wholeCaption, Whole}
-
-all-of : (n : ℕ) (p : ℕ → Bool) → ((k : ℕ) → k < n → p k ≡ true) → allBelow n p ≡ true
-unfolding allBelow
-all-of zero p h = refl
-all-of (suc n) p h = rw (all-of n p (λ k l. h k (omega arith)), h n (omega arith))
 
 three : (a b c : Bool) → cond a (cond b c false) false ≡ true → (a ≡ true) × (b ≡ true) × (c ≡ true)
 three true true c e = (refl, refl, e)

@@ -5,7 +5,7 @@ use Prim.Native.Nat.{ℕ, zero, suc, _<_}
 use native.Mathlib.Omega.{arith}
 use Rattle.ioctl_table.specs.Refusal.{errnoOf, numbered}
 use Rattle.ioctl_table.specs.declared.refusals.Refusal.{Refusal}
-use Rattle.ioctl_table.specs.declared.refusals.Refusal.the-variants.{ArgumentLength, MemoryLength, Closed, UnknownWord, WrongType, WrongMemory, NoSuchIndex, NoSuchControl, NotDequeued, NoBuffers, NotStreaming, ControlDisabled, ControlReadOnly, ControlIsButton, BadSheet, MemoryTooLong, NoSuchPlane, BuffersExist, Streaming, ControlGrabbed, OutOfRange, NothingOutgoing, RunFull}
+use Rattle.ioctl_table.specs.declared.refusals.Refusal.the-variants.{ArgumentLength, MemoryLength, Closed, UnknownWord, WrongType, WrongMemory, NoSuchIndex, NoSuchControl, NotDequeued, NoBuffers, NotStreaming, ControlDisabled, ControlReadOnly, ControlIsButton, BadSheet, MemoryTooLong, NoSuchPlane, BuffersExist, Streaming, ControlGrabbed, OutOfRange, NothingOutgoing, RunFull, BadLines, BadBlock}
 
 -- every refusal gives one of the seven numbers
 pub errno-known : (r : Refusal) → numbered (errnoOf r) ≡ true
@@ -32,6 +32,8 @@ errno-known ControlGrabbed = refl
 errno-known OutOfRange = refl
 errno-known NothingOutgoing = refl
 errno-known RunFull = refl
+errno-known BadLines = refl
+errno-known BadBlock = refl
 
 positive : (n : ℕ) → numbered n ≡ true → 0 < n
 positive zero e = absurd (false≢true e)

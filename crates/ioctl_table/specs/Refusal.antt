@@ -4,7 +4,7 @@ use mathlib.Core.List.{List, [], _∷_}
 use Prim.Native.Nat.{ℕ}
 use lib.Dec.{eqb}
 use Rattle.ioctl_table.specs.declared.refusals.Refusal.{Refusal}
-use Rattle.ioctl_table.specs.declared.refusals.Refusal.the-variants.{ArgumentLength, MemoryLength, Closed, UnknownWord, WrongType, WrongMemory, NoSuchIndex, NoSuchControl, NotDequeued, NoBuffers, NotStreaming, ControlDisabled, ControlReadOnly, ControlIsButton, BadSheet, MemoryTooLong, NoSuchPlane, BuffersExist, Streaming, ControlGrabbed, OutOfRange, NothingOutgoing, RunFull}
+use Rattle.ioctl_table.specs.declared.refusals.Refusal.the-variants.{ArgumentLength, MemoryLength, Closed, UnknownWord, WrongType, WrongMemory, NoSuchIndex, NoSuchControl, NotDequeued, NoBuffers, NotStreaming, ControlDisabled, ControlReadOnly, ControlIsButton, BadSheet, MemoryTooLong, NoSuchPlane, BuffersExist, Streaming, ControlGrabbed, OutOfRange, NothingOutgoing, RunFull, BadLines, BadBlock}
 
 -- the number that is given back for a refusal, under the reason for it
 abbrev pub errnoOf : Refusal → ℕ
@@ -54,6 +54,10 @@ errnoOf OutOfRange = 34
 errnoOf NothingOutgoing = 11
 -- the run has accepted all the arrivals that it can number
 errnoOf RunFull = 75
+-- lines to be packed break a rule, or the block lent is not of their length
+errnoOf BadLines = 22
+-- a block to be read breaks a rule, or what is lent for its lines is not of their length
+errnoOf BadBlock = 22
 
 -- the number is one of the list
 abbrev pub anyOf : ℕ → List ℕ → Bool

@@ -26,6 +26,8 @@ pub enum Refusal {
     OutOfRange,
     NothingOutgoing,
     RunFull,
+    BadLines,
+    BadBlock,
 }
 
 pub fn errno(r: Refusal) -> u32
@@ -55,5 +57,7 @@ pub fn errno(r: Refusal) -> u32
         Refusal::OutOfRange => 34,
         Refusal::NothingOutgoing => 11,
         Refusal::RunFull => 75,
+        Refusal::BadLines => 22,
+        Refusal::BadBlock => 22,
     }
 }

@@ -1,3 +1,4 @@
 pub mod Counts
 pub mod Members
 pub mod Laws
+pub mod Ranks

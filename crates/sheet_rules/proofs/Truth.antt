@@ -39,6 +39,19 @@ all-at (suc n) p e k h = by (ltb k n) refl (λ l. all-at n p (both (allBelow n p
     by true l f = f (ltb-true k n l)
     by false l f = let q : k ≡ n = omega (arith, ltb-false k n l) in rw q (both (allBelow n p) (p n) e .1)
 
+pub all-of : (n : ℕ) (p : ℕ → Bool) → ((k : ℕ) → k < n → p k ≡ true) → allBelow n p ≡ true
+unfolding allBelow
+all-of zero p h = refl
+all-of (suc n) p h = rw (all-of n p (λ k l. h k (omega arith)), h n (omega arith))
+
+-- one that fails
+pub all-not : (n : ℕ) (p : ℕ → Bool) (k : ℕ) → k < n → p k ≡ false → allBelow n p ≡ false
+all-not n p k h e = by (allBelow n p) refl
+  where
+    by : (b : Bool) → allBelow n p ≡ b → allBelow n p ≡ false
+    by true t = absurd (false≢true (sym e ∙ all-at n p t k h))
+    by false t = t
+
 -- some number below the bound
 pub any-at : (n : ℕ) (p : ℕ → Bool) → anyBelow n p ≡ true → (k : ℕ) × (k < n) × (p k ≡ true)
 unfolding anyBelow

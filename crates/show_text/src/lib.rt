@@ -26,6 +26,11 @@ pub fn hex(n: u32) {
     io::print_hex(libc::STDOUT_FILENO, n as u64, 8);
 }
 
+// A byte, by its two digits.
+pub fn byte(b: u8) {
+    io::print_hex(libc::STDOUT_FILENO, b as u64, 2);
+}
+
 // The signed number that a word's 32 bits stand for.
 pub fn signed(w: u32) {
     if w < 0x8000_0000 {

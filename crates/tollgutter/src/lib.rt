@@ -1,5 +1,6 @@
-// The device for programs in C: include/tollgutter.h declares the functions that this crate exports. The caller owns the device and
-// lends it to each call, which lends its arrays on. A device is numbers only, so that every content of it is one that the contracts speak of.
+// The device for programs in C, and the packing of caption lines, which needs none: include/tollgutter.h declares the functions that this crate
+// exports. The caller owns the device and lends it to each call, which lends its arrays on. A device is numbers only, so that every content
+// of it is one that the contracts speak of.
 ghost use mathlib.Core.Path.{_≡_};
 ghost use lib.ListN.{length};
 ghost use Rattle.stream_words.specs.Words.{timeOf};
@@ -9,6 +10,9 @@ ghost use Rattle.device_film.specs.Film.{takenOf, takenMemory};
 ghost use Rattle.device_planes.specs.Planes.{devicePlace};
 ghost use Rattle.device_opening.specs.Opening.{openedOf, wholeOf};
 ghost use Rattle.device_numbers.specs.Told.{verdictTold};
+ghost use Rattle.ivtv_rules.specs.Block.{blockLength};
+ghost use Rattle.ivtv_rules.specs.Writing.{packNumber, packed};
+ghost use Rattle.ivtv_rules.specs.Reading.{unpackNumber, unpacked};
 use arrival_replies::Told;
 use device_state::Device;
 use plane_rules::Place;
@@ -85,4 +89,28 @@ pub extern "C" fn tg_plane(d: &Device, bytes: usize, plane: u32) -> Place
     ensures { λ r. ⌜ r ≡ devicePlace (now (d .entry) .sheet) (wholeOf (now (d .entry)) .state) bytes plane ⌝ }
 {
     device_planes::plane_place(&d.sheet, &d.setup, bytes, plane)
+}
+
+// Records of 64 bytes packed into a block.
+#[no_mangle]
+pub extern "C" fn tg_vbi_pack(lines: &[u8], block: &mut [u8]) -> u32
+    ensures { λ r. ⌜ (r ≡ packNumber (now (lines .entry)) (length (now (block .entry)))) × (now (block .exit) ≡ packed (now (lines .entry)) (now (block .entry))) ⌝ }
+{
+    ivtv::pack(lines, block)
+}
+
+// A block read into records of 64 bytes.
+#[no_mangle]
+pub extern "C" fn tg_vbi_unpack(block: &[u8], lines: &mut [u8]) -> u32
+    ensures { λ r. ⌜ (r ≡ unpackNumber (now (block .entry)) (length (now (lines .entry)))) × (now (lines .exit) ≡ unpacked (now (block .entry)) (now (lines .entry))) ⌝ }
+{
+    ivtv::unpack(block, lines)
+}
+
+// Bytes of a block of so many lines.
+#[no_mangle]
+pub extern "C" fn tg_vbi_block_length(lines: usize) -> usize
+    ensures { λ r. ⌜ r ≡ blockLength lines ⌝ }
+{
+    ivtv_rules::block_length(lines)
 }

@@ -2,13 +2,13 @@
 use mathlib.Core.Path.{_≡_, sym, ap, _∙_}
 use Prim.Native.Nat.{ℕ, _+_, _≤_, _<_}
 use native.Mathlib.Omega.{arith}
-use mathlib.Core.List.{List, _++_}
+use mathlib.Core.List.{List}
 use lib.ListN.{length, getD, take, drop, set, length-take, length-drop, take-append-drop}
 use lib.Seq.{sets, length-sets, ext-getD, getD-take, getD-drop, drop-drop}
 use Rattle.wire_read.proofs.Stores.{sets-before, sets-behind, sets-at, sets-append, sets-turn, sets-done}
 
 -- an element of a part
-part-at : (n : ℕ) (l : List ℕ) (a i : ℕ) → i < n → getD (take n (drop a l)) i 0 ≡ getD l (a + i) 0
+pub part-at : (n : ℕ) (l : List ℕ) (a i : ℕ) → i < n → getD (take n (drop a l)) i 0 ≡ getD l (a + i) 0
 part-at n l a i h = getD-take n (drop a l) i 0 h ∙ getD-drop a l i 0
 
 -- parts of two lists of one length, alike at each place

@@ -1,6 +1,6 @@
 -- Runs of stores, `sets l at vs`: as far as the list reaches, each where it belongs, and nothing else touched.
 -- The length is kept: `length-sets` of lib.Seq. Assumes nothing.
-use mathlib.Core.Path.{_≡_, refl, sym, _∙_}
+use mathlib.Core.Path.{_≡_, refl, sym, ap, _∙_}
 use mathlib.Core.List.{List, [], _∷_, _++_, append-nil, append-assoc}
 use Prim.Native.Nat.{ℕ, zero, suc, _+_, _-_, min, _≤_, _<_}
 use mathlib.Core.Bool.{Bool, true, false}
@@ -86,6 +86,17 @@ sets-within [] z a at i h = refl
 sets-within (x ∷ v) z a at i h =
     sets-within v (set z i x) a at (suc i) (simp length-set (omega arith))
     ∙ rw (set-within z a at i x (omega arith), add-suc at i)
+
+-- ---- a run stored behind a list
+
+behind-first : (x : ℕ) (vs l : List ℕ) (at : ℕ) → sets (x ∷ l) (suc at) vs ≡ x ∷ sets l at vs
+behind-first x [] l at = refl
+behind-first x (v ∷ vs) l at = behind-first x vs (set l at v) (suc at)
+
+-- stored right behind p it is stored at the start of what follows p
+pub sets-after : (p l vs : List ℕ) → sets (p ++ l) (length p) vs ≡ p ++ sets l 0 vs
+sets-after [] l vs = refl
+sets-after (x ∷ p) l vs = behind-first x vs (p ++ l) (length p) ∙ ap (λ (q : List ℕ). x ∷ q) (sets-after p l vs)
 
 -- ---- a reply filled from its start, piece by piece
 

@@ -6,11 +6,12 @@ use native.Mathlib.Nat.{add-zero, zero-add, add-assoc, le-of-suc-le-suc, not-suc
 use native.Mathlib.Numerals.{add-one}
 use native.Mathlib.Omega.{arith}
 use lib.Pow.{shr-shr, shr-lt, split}
-use lib.ListN.{length, getD, take, drop, replicate, length-append, length-replicate, length-take}
+use lib.ListN.{length, getD, take, drop, replicate, length-replicate, length-take, List·getD-append}
 use lib.Seq.{sets, length-sets, ext-getD, drop-cons, getD-take, getD-drop}
 use Rattle.wire_read.specs.Words.{wordAt, fourWords, le32, bytesOf}
 use Rattle.wire_read.proofs.Lists.{past-end}
 use Rattle.wire_read.proofs.Stores.{sets-append, sets-before, sets-behind, sets-at, byte-over-zeros}
+use Rattle.wire_read.proofs.Parts.{part-at}
 
 -- a word past the end is 0
 pub word-past-end : (s : List ℕ) (at : ℕ) → length s ≤ at → wordAt s at ≡ 0
@@ -100,6 +101,13 @@ word-of (w ∷ ws) (suc k) h b =
     let e : 4 * suc k ≡ 4 + 4 * k = omega arith in
     rw (e, ← word-drop (le32 w ++ bytesOf ws) 4 (4 * k)) (word-of ws k (le-of-suc-le-suc h) b)
 
+-- the same of a run that stands before other bytes
+pub word-head : (ws rest : List ℕ) (k : ℕ) → k < length ws → getD ws k 0 < 4294967296 → wordAt (bytesOf ws ++ rest) (4 * k) ≡ getD ws k 0
+word-head ws rest k h b =
+    word-same (bytesOf ws ++ rest) (bytesOf ws) (4 * k) (4 * k)
+    (λ i l. List·getD-append (bytesOf ws) rest 0 (4 * k + i) (omega (arith, length-bytesOf ws)))
+    ∙ word-of ws k h b
+
 -- a word stored where it fits is read there
 pub word-back : (l : List ℕ) (at w : ℕ) → at + 4 ≤ length l → w < 4294967296 → wordAt (sets l at (le32 w)) at ≡ w
 unfolding wordAt le32
@@ -115,9 +123,9 @@ words-turn l ws k i h = rw (add-one i, drop-cons ws i 0 h) (sets-append (le32 (g
 -- ---- words read from bytes
 
 -- n bytes from a place on, copied over zeros: past the end there is 0 in both
-byte-copied : (s : List ℕ) (at n i : ℕ) → i < n → getD (sets (replicate n 0) 0 (take n (drop at s))) i 0 ≡ getD s (at + i) 0
+pub byte-copied : (s : List ℕ) (at n i : ℕ) → i < n → getD (sets (replicate n 0) 0 (take n (drop at s))) i 0 ≡ getD s (at + i) 0
 byte-copied s at n i h =
-    byte-over-zeros (take n (drop at s)) n (omega (arith, length-take n (drop at s))) i ∙ getD-take n (drop at s) i 0 h ∙ getD-drop at s i 0
+    byte-over-zeros (take n (drop at s)) n (omega (arith, length-take n (drop at s))) i ∙ part-at n s at i h
 
 -- a word of the copy is the word there
 pub word-copied : (s : List ℕ) (at n j : ℕ) → j + 4 ≤ n → wordAt (sets (replicate n 0) 0 (take n (drop at s))) j ≡ wordAt s (at + j)

@@ -5,7 +5,7 @@ ghost use lib.ListN.{length, getD, take, drop};
 ghost use Rattle.wire_read.specs.Words.{wordAt};
 
 // The byte at a place, 0 past the end.
-fn byte_at(s: &[u8], at: usize) -> u8
+pub fn byte_at(s: &[u8], at: usize) -> u8
     ensures { λ r. ⌜ r ≡ getD (now (s .entry)) at 0 ⌝ }
 {
     if at < s.len() { s[at] } else { 0 }

@@ -4,6 +4,7 @@ use std::env;
 use std::process::ExitCode;
 use std::time::{Instant, SystemTime, UNIX_EPOCH};
 use tollgutter_tests::coverage::Coverage;
+use tollgutter_tests::packing::{self, Packer};
 use tollgutter_tests::recorder::Recorder;
 use tollgutter_tests::runner::{Difference, Runner};
 use tollgutter_tests::session::Session;
@@ -61,7 +62,7 @@ fn main() -> ExitCode {
         return ExitCode::from(2);
     };
     if options.own {
-        return all(&options, model::Device::closed, |_| Ok(()));
+        return all(&options, model::Device::closed, |options| packed(options, &packing::Model));
     }
     with_library(&options)
 }
@@ -73,7 +74,7 @@ fn with_library(options: &Options) -> ExitCode {
         let seen = anything::run(options.seed, options.calls / 10)?;
         println!("devices of any content: {}", seen.in_short());
         println!("{} calls on devices of any content: all answered", seen.calls);
-        Ok(())
+        packed(options, &ffi::Packing)
     })
 }
 
@@ -81,6 +82,18 @@ fn with_library(options: &Options) -> ExitCode {
 fn with_library(_: &Options) -> ExitCode {
     eprintln!("built without the library: only --self can run");
     ExitCode::from(2)
+}
+
+/// Calls of the packing, which is no part of a session.
+fn packed<T: Packer>(options: &Options, tested: &T) -> Result<(), String> {
+    let seen = packing::run(options.seed, options.calls / 10, &packing::Model, tested)?;
+    println!("{seen}");
+    let missing = seen.missing();
+    if !missing.is_empty() {
+        return Err(missing.join("\n"));
+    }
+    println!("{} calls of the packing compared: all equal", seen.calls);
+    Ok(())
 }
 
 /// One session if one is named, else many, and then what `more` does.

@@ -7,6 +7,7 @@ pub mod control;
 pub mod crop;
 pub mod format;
 pub mod numbers;
+pub mod packing;
 mod requests;
 pub mod services;
 pub mod sheet;

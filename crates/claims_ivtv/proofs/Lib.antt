@@ -1,0 +1,11 @@
+pub mod Tests
+pub mod Told
+pub mod Writer
+pub mod Reader
+pub mod Blocks
+pub mod Records
+pub mod Same
+pub mod Readings
+pub mod Round
+pub mod Meets
+pub mod Shut

@@ -1,0 +1,12 @@
+pub mod Services
+pub mod Stored
+pub mod Joined
+pub mod Pieces
+pub mod Masks
+pub mod Identifiers
+pub mod OneLine
+pub mod Named
+pub mod Openings
+pub mod Taken
+pub mod Bits
+pub mod Zeros

@@ -1,0 +1,5 @@
+pub mod Services
+pub mod Lines
+pub mod Block
+pub mod Writing
+pub mod Reading
