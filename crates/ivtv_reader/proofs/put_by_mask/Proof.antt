@@ -27,220 +27,83 @@ Inv-loop lines₀ block start mask j₀ k₀ rest₀ lines j k rest = (k ≤ 36)
 abbrev μ-loop : tie.MeasureT-loop
 μ-loop lines₀ block start mask j₀ k₀ rest₀ lines j k rest = 36 - k
 
+-- what a turn that begins at t knows: the next set bit is one of the 36, its line is there, and its record fits
+turn : (t : tie.In-loop Inv-loop μ-loop)
+    → (t .before .loop .k + trailingZeros 64 (t .before .loop .rest) < 36)
+    × (t .before .loop .j < 36)
+    × (64 * t .before .loop .j + 64 ≤ length (t .before .loop .lines))
+    × (t .before .before .before .before .args .start ≤ 12)
+    × (t .before .before .before .before .args .start + 43 * t .before .loop .j + 43 ≤ length (now (t .before .before .before .before .args .block)))
+turn t =
+    let l = t .before .loop in
+    let d = t .before .before .before .before in
+    let a = d .args in
+    let n = l .k + trailingZeros 64 (l .rest) in
+    let b = next-below (a .mask) (l .k) (l .rest) (d .pre .bits) (l .inv .1) (t .loop-test .taken) in
+    let q = next-count (a .mask) (l .k) (l .rest) (d .pre .bits) (l .inv .1) (t .loop-test .taken) ∙ sym (l .inv .2) in
+    let m = next-line (a .mask) n (l .j) b (next-set (a .mask) (l .k) (l .rest) (d .pre .bits) (l .inv .1) (t .loop-test .taken)) q in
+    let z : length (l .lines) ≡ length (now (a .lines)) = ap length (l .inv .3) ∙ simp length-sets in (
+      b,
+      omega (arith, m, count-most 36 (bitOn (a .mask))),
+      omega (arith, m, z, d .pre .fits),
+      d .pre .low,
+      omega (arith, m, d .pre .there),
+    )
+
 loop-holds : tie.Need-loop-holds Inv-loop μ-loop
 unfolding joined countBelow
 loop-holds c = let a = c .before .before .args in (omega arith, sym (div-one (a .mask)), refl, refl)
 
 add-k : tie.Need-add-k Inv-loop μ-loop
-add-k c =
-    let t = c in
-    let l = t .before .loop in
-    let d = t .before .before .before .before in
-    let a = d .args in
-    let n = l .k + trailingZeros 64 (l .rest) in
-    let b = next-below (a .mask) (l .k) (l .rest) (d .pre .bits) (l .inv .1) (t .loop-test .taken) in
-    let q = next-count (a .mask) (l .k) (l .rest) (d .pre .bits) (l .inv .1) (t .loop-test .taken) ∙ sym (l .inv .2) in
-    let m = next-line (a .mask) n (l .j) b (next-set (a .mask) (l .k) (l .rest) (d .pre .bits) (l .inv .1) (t .loop-test .taken)) q in
-    let z : length (l .lines) ≡ length (now (a .lines)) = ap length (l .inv .3) ∙ simp length-sets in
-    omega (arith, b, m, z, d .pre .there, d .pre .fits, d .pre .low, count-most 36 (bitOn (a .mask)))
+add-k c = omega (arith, turn c)
 
 mul-to : tie.Need-mul-to Inv-loop μ-loop
-mul-to c =
-    let t = c in
-    let l = t .before .loop in
-    let d = t .before .before .before .before in
-    let a = d .args in
-    let n = l .k + trailingZeros 64 (l .rest) in
-    let b = next-below (a .mask) (l .k) (l .rest) (d .pre .bits) (l .inv .1) (t .loop-test .taken) in
-    let q = next-count (a .mask) (l .k) (l .rest) (d .pre .bits) (l .inv .1) (t .loop-test .taken) ∙ sym (l .inv .2) in
-    let m = next-line (a .mask) n (l .j) b (next-set (a .mask) (l .k) (l .rest) (d .pre .bits) (l .inv .1) (t .loop-test .taken)) q in
-    let z : length (l .lines) ≡ length (now (a .lines)) = ap length (l .inv .3) ∙ simp length-sets in
-    omega (arith, b, m, z, d .pre .there, d .pre .fits, d .pre .low, count-most 36 (bitOn (a .mask)))
+mul-to c = omega (arith, turn c)
 
 add-if1 : tie.Need-add-if1 Inv-loop μ-loop
-add-if1 c =
-    let t = c in
-    let l = t .before .loop in
-    let d = t .before .before .before .before in
-    let a = d .args in
-    let n = l .k + trailingZeros 64 (l .rest) in
-    let b = next-below (a .mask) (l .k) (l .rest) (d .pre .bits) (l .inv .1) (t .loop-test .taken) in
-    let q = next-count (a .mask) (l .k) (l .rest) (d .pre .bits) (l .inv .1) (t .loop-test .taken) ∙ sym (l .inv .2) in
-    let m = next-line (a .mask) n (l .j) b (next-set (a .mask) (l .k) (l .rest) (d .pre .bits) (l .inv .1) (t .loop-test .taken)) q in
-    let z : length (l .lines) ≡ length (now (a .lines)) = ap length (l .inv .3) ∙ simp length-sets in
-    omega (arith, b, m, z, d .pre .there, d .pre .fits, d .pre .low, count-most 36 (bitOn (a .mask)))
+add-if1 c = omega (arith, turn c)
 
 same-length : tie.Need-same-length Inv-loop μ-loop
-same-length c =
-    let t = c .before in
-    let l = t .before .loop in
-    let d = t .before .before .before .before in
-    let a = d .args in
-    let n = l .k + trailingZeros 64 (l .rest) in
-    let b = next-below (a .mask) (l .k) (l .rest) (d .pre .bits) (l .inv .1) (t .loop-test .taken) in
-    let q = next-count (a .mask) (l .k) (l .rest) (d .pre .bits) (l .inv .1) (t .loop-test .taken) ∙ sym (l .inv .2) in
-    let m = next-line (a .mask) n (l .j) b (next-set (a .mask) (l .k) (l .rest) (d .pre .bits) (l .inv .1) (t .loop-test .taken)) q in
-    let z : length (l .lines) ≡ length (now (a .lines)) = ap length (l .inv .3) ∙ simp length-sets in
-    absurd (omega (arith, b, m, z, d .pre .there, d .pre .fits, d .pre .low, count-most 36 (bitOn (a .mask))))
+same-length c = absurd (omega (arith, turn (c .before)))
 
 returns : tie.Need-returns Inv-loop μ-loop
-returns c =
-    let t = c .before in
-    let l = t .before .loop in
-    let d = t .before .before .before .before in
-    let a = d .args in
-    let n = l .k + trailingZeros 64 (l .rest) in
-    let b = next-below (a .mask) (l .k) (l .rest) (d .pre .bits) (l .inv .1) (t .loop-test .taken) in
-    let q = next-count (a .mask) (l .k) (l .rest) (d .pre .bits) (l .inv .1) (t .loop-test .taken) ∙ sym (l .inv .2) in
-    let m = next-line (a .mask) n (l .j) b (next-set (a .mask) (l .k) (l .rest) (d .pre .bits) (l .inv .1) (t .loop-test .taken)) q in
-    let z : length (l .lines) ≡ length (now (a .lines)) = ap length (l .inv .3) ∙ simp length-sets in
-    absurd (omega (arith, b, m, z, d .pre .there, d .pre .fits, d .pre .low, count-most 36 (bitOn (a .mask))))
+returns c = absurd (omega (arith, turn (c .before)))
 
 mul-at : tie.Need-mul-at Inv-loop μ-loop
-mul-at c =
-    let t = c .before in
-    let l = t .before .loop in
-    let d = t .before .before .before .before in
-    let a = d .args in
-    let n = l .k + trailingZeros 64 (l .rest) in
-    let b = next-below (a .mask) (l .k) (l .rest) (d .pre .bits) (l .inv .1) (t .loop-test .taken) in
-    let q = next-count (a .mask) (l .k) (l .rest) (d .pre .bits) (l .inv .1) (t .loop-test .taken) ∙ sym (l .inv .2) in
-    let m = next-line (a .mask) n (l .j) b (next-set (a .mask) (l .k) (l .rest) (d .pre .bits) (l .inv .1) (t .loop-test .taken)) q in
-    let z : length (l .lines) ≡ length (now (a .lines)) = ap length (l .inv .3) ∙ simp length-sets in
-    omega (arith, b, m, z, d .pre .there, d .pre .fits, d .pre .low, count-most 36 (bitOn (a .mask)))
+mul-at c = omega (arith, turn (c .before))
 
 add-at : tie.Need-add-at Inv-loop μ-loop
-add-at c =
-    let t = c .before in
-    let l = t .before .loop in
-    let d = t .before .before .before .before in
-    let a = d .args in
-    let n = l .k + trailingZeros 64 (l .rest) in
-    let b = next-below (a .mask) (l .k) (l .rest) (d .pre .bits) (l .inv .1) (t .loop-test .taken) in
-    let q = next-count (a .mask) (l .k) (l .rest) (d .pre .bits) (l .inv .1) (t .loop-test .taken) ∙ sym (l .inv .2) in
-    let m = next-line (a .mask) n (l .j) b (next-set (a .mask) (l .k) (l .rest) (d .pre .bits) (l .inv .1) (t .loop-test .taken)) q in
-    let z : length (l .lines) ≡ length (now (a .lines)) = ap length (l .inv .3) ∙ simp length-sets in
-    omega (arith, b, m, z, d .pre .there, d .pre .fits, d .pre .low, count-most 36 (bitOn (a .mask)))
+add-at c = omega (arith, turn (c .before))
 
 add-end : tie.Need-add-end Inv-loop μ-loop
-add-end c =
-    let t = c .before in
-    let l = t .before .loop in
-    let d = t .before .before .before .before in
-    let a = d .args in
-    let n = l .k + trailingZeros 64 (l .rest) in
-    let b = next-below (a .mask) (l .k) (l .rest) (d .pre .bits) (l .inv .1) (t .loop-test .taken) in
-    let q = next-count (a .mask) (l .k) (l .rest) (d .pre .bits) (l .inv .1) (t .loop-test .taken) ∙ sym (l .inv .2) in
-    let m = next-line (a .mask) n (l .j) b (next-set (a .mask) (l .k) (l .rest) (d .pre .bits) (l .inv .1) (t .loop-test .taken)) q in
-    let z : length (l .lines) ≡ length (now (a .lines)) = ap length (l .inv .3) ∙ simp length-sets in
-    omega (arith, b, m, z, d .pre .there, d .pre .fits, d .pre .low, count-most 36 (bitOn (a .mask)))
+add-end c = omega (arith, turn (c .before))
 
 sub-put-record : tie.Need-sub-put-record Inv-loop μ-loop
-sub-put-record c =
-    let t = c .before .before in
-    let l = t .before .loop in
-    let d = t .before .before .before .before in
-    let a = d .args in
-    let n = l .k + trailingZeros 64 (l .rest) in
-    let b = next-below (a .mask) (l .k) (l .rest) (d .pre .bits) (l .inv .1) (t .loop-test .taken) in
-    let q = next-count (a .mask) (l .k) (l .rest) (d .pre .bits) (l .inv .1) (t .loop-test .taken) ∙ sym (l .inv .2) in
-    let m = next-line (a .mask) n (l .j) b (next-set (a .mask) (l .k) (l .rest) (d .pre .bits) (l .inv .1) (t .loop-test .taken)) q in
-    let z : length (l .lines) ≡ length (now (a .lines)) = ap length (l .inv .3) ∙ simp length-sets in
-    omega (arith, b, m, z, d .pre .there, d .pre .fits, d .pre .low, count-most 36 (bitOn (a .mask)))
+sub-put-record c = omega (arith, turn (c .before .before))
 
 part-put-record-start : tie.Need-part-put-record-start Inv-loop μ-loop
-part-put-record-start c =
-    let t = c .before .before in
-    let l = t .before .loop in
-    let d = t .before .before .before .before in
-    let a = d .args in
-    let n = l .k + trailingZeros 64 (l .rest) in
-    let b = next-below (a .mask) (l .k) (l .rest) (d .pre .bits) (l .inv .1) (t .loop-test .taken) in
-    let q = next-count (a .mask) (l .k) (l .rest) (d .pre .bits) (l .inv .1) (t .loop-test .taken) ∙ sym (l .inv .2) in
-    let m = next-line (a .mask) n (l .j) b (next-set (a .mask) (l .k) (l .rest) (d .pre .bits) (l .inv .1) (t .loop-test .taken)) q in
-    let z : length (l .lines) ≡ length (now (a .lines)) = ap length (l .inv .3) ∙ simp length-sets in
-    omega (arith, b, m, z, d .pre .there, d .pre .fits, d .pre .low, count-most 36 (bitOn (a .mask)))
+part-put-record-start c = omega (arith, turn (c .before .before))
 
 part-put-record-end : tie.Need-part-put-record-end Inv-loop μ-loop
-part-put-record-end c =
-    let t = c .before .before in
-    let l = t .before .loop in
-    let d = t .before .before .before .before in
-    let a = d .args in
-    let n = l .k + trailingZeros 64 (l .rest) in
-    let b = next-below (a .mask) (l .k) (l .rest) (d .pre .bits) (l .inv .1) (t .loop-test .taken) in
-    let q = next-count (a .mask) (l .k) (l .rest) (d .pre .bits) (l .inv .1) (t .loop-test .taken) ∙ sym (l .inv .2) in
-    let m = next-line (a .mask) n (l .j) b (next-set (a .mask) (l .k) (l .rest) (d .pre .bits) (l .inv .1) (t .loop-test .taken)) q in
-    let z : length (l .lines) ≡ length (now (a .lines)) = ap length (l .inv .3) ∙ simp length-sets in
-    omega (arith, b, m, z, d .pre .there, d .pre .fits, d .pre .low, count-most 36 (bitOn (a .mask)))
+part-put-record-end c = omega (arith, turn (c .before .before))
 
 put-record-requires : tie.Need-put-record-requires Inv-loop μ-loop
 put-record-requires c κs = search needs
 
 add-k-2 : tie.Need-add-k-2 Inv-loop μ-loop
-add-k-2 c =
-    let t = c .before .before .before .before .before .before in
-    let l = t .before .loop in
-    let d = t .before .before .before .before in
-    let a = d .args in
-    let n = l .k + trailingZeros 64 (l .rest) in
-    let b = next-below (a .mask) (l .k) (l .rest) (d .pre .bits) (l .inv .1) (t .loop-test .taken) in
-    let q = next-count (a .mask) (l .k) (l .rest) (d .pre .bits) (l .inv .1) (t .loop-test .taken) ∙ sym (l .inv .2) in
-    let m = next-line (a .mask) n (l .j) b (next-set (a .mask) (l .k) (l .rest) (d .pre .bits) (l .inv .1) (t .loop-test .taken)) q in
-    let z : length (l .lines) ≡ length (now (a .lines)) = ap length (l .inv .3) ∙ simp length-sets in
-    omega (arith, b, m, z, d .pre .there, d .pre .fits, d .pre .low, count-most 36 (bitOn (a .mask)))
+add-k-2 c = omega (arith, turn (c .before .before .before .before .before .before))
 
 cast-rest : tie.Need-cast-rest Inv-loop μ-loop
-cast-rest c =
-    let t = c .before .before .before .before .before .before in
-    let l = t .before .loop in
-    let d = t .before .before .before .before in
-    let a = d .args in
-    let n = l .k + trailingZeros 64 (l .rest) in
-    let b = next-below (a .mask) (l .k) (l .rest) (d .pre .bits) (l .inv .1) (t .loop-test .taken) in
-    let q = next-count (a .mask) (l .k) (l .rest) (d .pre .bits) (l .inv .1) (t .loop-test .taken) ∙ sym (l .inv .2) in
-    let m = next-line (a .mask) n (l .j) b (next-set (a .mask) (l .k) (l .rest) (d .pre .bits) (l .inv .1) (t .loop-test .taken)) q in
-    let z : length (l .lines) ≡ length (now (a .lines)) = ap length (l .inv .3) ∙ simp length-sets in
-    omega (arith, b, m, z, d .pre .there, d .pre .fits, d .pre .low, count-most 36 (bitOn (a .mask)))
+cast-rest c = omega (arith, turn (c .before .before .before .before .before .before))
 
 shr-rest : tie.Need-shr-rest Inv-loop μ-loop
-shr-rest c =
-    let t = c .before .before .before .before .before .before in
-    let l = t .before .loop in
-    let d = t .before .before .before .before in
-    let a = d .args in
-    let n = l .k + trailingZeros 64 (l .rest) in
-    let b = next-below (a .mask) (l .k) (l .rest) (d .pre .bits) (l .inv .1) (t .loop-test .taken) in
-    let q = next-count (a .mask) (l .k) (l .rest) (d .pre .bits) (l .inv .1) (t .loop-test .taken) ∙ sym (l .inv .2) in
-    let m = next-line (a .mask) n (l .j) b (next-set (a .mask) (l .k) (l .rest) (d .pre .bits) (l .inv .1) (t .loop-test .taken)) q in
-    let z : length (l .lines) ≡ length (now (a .lines)) = ap length (l .inv .3) ∙ simp length-sets in
-    omega (arith, b, m, z, d .pre .there, d .pre .fits, d .pre .low, count-most 36 (bitOn (a .mask)))
+shr-rest c = omega (arith, turn (c .before .before .before .before .before .before))
 
 add-j : tie.Need-add-j Inv-loop μ-loop
-add-j c =
-    let t = c .before .before .before .before .before .before in
-    let l = t .before .loop in
-    let d = t .before .before .before .before in
-    let a = d .args in
-    let n = l .k + trailingZeros 64 (l .rest) in
-    let b = next-below (a .mask) (l .k) (l .rest) (d .pre .bits) (l .inv .1) (t .loop-test .taken) in
-    let q = next-count (a .mask) (l .k) (l .rest) (d .pre .bits) (l .inv .1) (t .loop-test .taken) ∙ sym (l .inv .2) in
-    let m = next-line (a .mask) n (l .j) b (next-set (a .mask) (l .k) (l .rest) (d .pre .bits) (l .inv .1) (t .loop-test .taken)) q in
-    let z : length (l .lines) ≡ length (now (a .lines)) = ap length (l .inv .3) ∙ simp length-sets in
-    omega (arith, b, m, z, d .pre .there, d .pre .fits, d .pre .low, count-most 36 (bitOn (a .mask)))
+add-j c = omega (arith, turn (c .before .before .before .before .before .before))
 
 loop-less : tie.Need-loop-less Inv-loop μ-loop
-loop-less c =
-    let t = c .before .before .before .before .before .before in
-    let l = t .before .loop in
-    let d = t .before .before .before .before in
-    let a = d .args in
-    let n = l .k + trailingZeros 64 (l .rest) in
-    let b = next-below (a .mask) (l .k) (l .rest) (d .pre .bits) (l .inv .1) (t .loop-test .taken) in
-    let q = next-count (a .mask) (l .k) (l .rest) (d .pre .bits) (l .inv .1) (t .loop-test .taken) ∙ sym (l .inv .2) in
-    let m = next-line (a .mask) n (l .j) b (next-set (a .mask) (l .k) (l .rest) (d .pre .bits) (l .inv .1) (t .loop-test .taken)) q in
-    let z : length (l .lines) ≡ length (now (a .lines)) = ap length (l .inv .3) ∙ simp length-sets in
-    omega (arith, b, m, z, d .pre .there, d .pre .fits, d .pre .low, count-most 36 (bitOn (a .mask)))
+loop-less c = omega (arith, turn (c .before .before .before .before .before .before))
 
 loop-again : tie.Need-loop-again Inv-loop μ-loop
 loop-again c =
@@ -249,10 +112,7 @@ loop-again c =
     let d = t .before .before .before .before in
     let a = d .args in
     let n = l .k + trailingZeros 64 (l .rest) in
-    let b = next-below (a .mask) (l .k) (l .rest) (d .pre .bits) (l .inv .1) (t .loop-test .taken) in
     let q = next-count (a .mask) (l .k) (l .rest) (d .pre .bits) (l .inv .1) (t .loop-test .taken) ∙ sym (l .inv .2) in
-    let m = next-line (a .mask) n (l .j) b (next-set (a .mask) (l .k) (l .rest) (d .pre .bits) (l .inv .1) (t .loop-test .taken)) q in
-    let z : length (l .lines) ≡ length (now (a .lines)) = ap length (l .inv .3) ∙ simp length-sets in
     let r = c .before .before .put-record in
     let v = now (a .block) in
     let f : ℕ → List ℕ = recordIn v (a .start) (a .mask) in
@@ -261,7 +121,7 @@ loop-again c =
     let x : l .lines ≡ sets (now (a .lines)) 0 (joined f n) = rw j (l .inv .3) in
     let y : 64 * l .j ≡ 0 + length (joined f n) = omega (arith, q, records-length v (a .start) (a .mask) n) in
     let w : f n ≡ recordOf n (lineAt v (a .start) (l .j)) = rw (s, q) in (
-      omega (arith, b),
+      omega (arith, turn t),
       refl,
       sym (count-more n (bitOn (a .mask)) ∙ rw (s, q)),
       stored-more (now (a .lines)) (l .lines) (r .last .0) f 0 (64 * l .j) n x y (rw w (r .ensures ∙ rw (cut v (a .start) (l .j)))),

@@ -24,33 +24,25 @@ Inv-loop block₀ start lines places mask at₀ k₀ rest₀ block at k rest = (
 abbrev μ-loop : tie.MeasureT-loop
 μ-loop block₀ start lines places mask at₀ k₀ rest₀ block at k rest = 36 - k
 
+-- in a turn that begins at t the next set bit is one of the 36
+next : (t : tie.In-loop Inv-loop μ-loop) → t .before .loop .k + trailingZeros 64 (t .before .loop .rest) < 36
+next t =
+    let l = t .before .loop in
+    let d = t .before .before .before .before in
+    next-below (d .args .mask) (l .k) (l .rest) (d .pre .bits) (l .inv .1) (t .loop-test .taken)
+
 loop-holds : tie.Need-loop-holds Inv-loop μ-loop
 unfolding joined
 loop-holds c = let a = c .before .before .args in (omega arith, sym (div-one (a .mask)), refl, sym (add-zero (a .start)))
 
 add-k : tie.Need-add-k Inv-loop μ-loop
-add-k c =
-    let t = c in
-    let l = t .before .loop in
-    let d = t .before .before .before .before in
-    let a = d .args in
-    omega (arith, next-below (a .mask) (l .k) (l .rest) (d .pre .bits) (l .inv .1) (t .loop-test .taken))
+add-k c = omega (arith, next c)
 
 cast-put-named : tie.Need-cast-put-named Inv-loop μ-loop
-cast-put-named c =
-    let t = c .before in
-    let l = t .before .loop in
-    let d = t .before .before .before .before in
-    let a = d .args in
-    omega (arith, next-below (a .mask) (l .k) (l .rest) (d .pre .bits) (l .inv .1) (t .loop-test .taken))
+cast-put-named c = omega (arith, next (c .before))
 
 element-copy-out-put-named : tie.Need-element-copy-out-put-named Inv-loop μ-loop
-element-copy-out-put-named c =
-    let t = c .before in
-    let l = t .before .loop in
-    let d = t .before .before .before .before in
-    let a = d .args in
-    omega (arith, next-below (a .mask) (l .k) (l .rest) (d .pre .bits) (l .inv .1) (t .loop-test .taken))
+element-copy-out-put-named c = omega (arith, next (c .before))
 
 put-named-requires : tie.Need-put-named-requires Inv-loop μ-loop
 put-named-requires c κs =
@@ -63,40 +55,20 @@ put-named-requires c κs =
     let s = next-set (a .mask) (l .k) (l .rest) (d .pre .bits) (l .inv .1) (t .loop-test .taken) in
     let j : joined f n ≡ joined f (l .k) = next-joined (a .mask) (l .k) (l .rest) (d .pre .bits) (l .inv .1) (t .loop-test .taken) f (kept-none (now (a .lines)) (now (a .places)) (a .mask)) in
     let z : length (l .block) ≡ length (now (a .block)) = ap length (l .inv .2) ∙ simp length-sets in
-    let g = line-fits (now (a .block)) (now (a .lines)) (now (a .places)) (a .start) (a .mask) n (d .pre) (next-below (a .mask) (l .k) (l .rest) (d .pre .bits) (l .inv .1) (t .loop-test .taken)) s in
+    let g = line-fits (now (a .block)) (now (a .lines)) (now (a .places)) (a .start) (a .mask) n (d .pre) (next t) s in
     (omega (arith, z, l .inv .3, ap length j, g), d .pre .named n s, d .pre .there n)
 
 add-k-2 : tie.Need-add-k-2 Inv-loop μ-loop
-add-k-2 c =
-    let t = c .before .before .before .before .before in
-    let l = t .before .loop in
-    let d = t .before .before .before .before in
-    let a = d .args in
-    omega (arith, next-below (a .mask) (l .k) (l .rest) (d .pre .bits) (l .inv .1) (t .loop-test .taken))
+add-k-2 c = omega (arith, next (c .before .before .before .before .before))
 
 cast-rest : tie.Need-cast-rest Inv-loop μ-loop
-cast-rest c =
-    let t = c .before .before .before .before .before in
-    let l = t .before .loop in
-    let d = t .before .before .before .before in
-    let a = d .args in
-    omega (arith, next-below (a .mask) (l .k) (l .rest) (d .pre .bits) (l .inv .1) (t .loop-test .taken))
+cast-rest c = omega (arith, next (c .before .before .before .before .before))
 
 shr-rest : tie.Need-shr-rest Inv-loop μ-loop
-shr-rest c =
-    let t = c .before .before .before .before .before in
-    let l = t .before .loop in
-    let d = t .before .before .before .before in
-    let a = d .args in
-    omega (arith, next-below (a .mask) (l .k) (l .rest) (d .pre .bits) (l .inv .1) (t .loop-test .taken))
+shr-rest c = omega (arith, next (c .before .before .before .before .before))
 
 loop-less : tie.Need-loop-less Inv-loop μ-loop
-loop-less c =
-    let t = c .before .before .before .before .before in
-    let l = t .before .loop in
-    let d = t .before .before .before .before in
-    let a = d .args in
-    omega (arith, next-below (a .mask) (l .k) (l .rest) (d .pre .bits) (l .inv .1) (t .loop-test .taken))
+loop-less c = omega (arith, next (c .before .before .before .before .before))
 
 loop-again : tie.Need-loop-again Inv-loop μ-loop
 loop-again c =
@@ -115,7 +87,7 @@ loop-again c =
     let w : length (f n) ≡ 43 = ap length (s ∙ a-record (now (a .lines)) p o) ∙ length-line (record64 (now (a .lines)) (p - 1)) in
     let x : l .block ≡ sets (now (a .block)) (a .start) (joined f n) = rw j (l .inv .2) in
     let y : l .at ≡ a .start + length (joined f n) = rw j (l .inv .3) in (
-      omega (arith, next-below (a .mask) (l .k) (l .rest) (d .pre .bits) (l .inv .1) (t .loop-test .taken)),
+      omega (arith, next t),
       refl,
       stored-more (now (a .block)) (l .block) (r .last .0) f (a .start) (l .at) n x y (rw s (r .ensures .0)),
       place-more (now (a .block)) (l .block) (r .last .0) f (a .start) (l .at) n x y (r .result) (rw w (r .ensures .1)),
