@@ -9,3 +9,4 @@ pub mod Readings
 pub mod Round
 pub mod Meets
 pub mod Shut
+pub mod Wrong

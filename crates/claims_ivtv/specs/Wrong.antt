@@ -2,8 +2,8 @@
 use Prim.Native.Nat.{ℕ, _+_, _-_, _^_, _≤_, _<_}
 use mathlib.Core.Path.{_≡_}
 use mathlib.Core.Logic.{_≢_, _⊎_}
-use mathlib.Core.List.{List}
-use lib.ListN.{length, getD, take, drop}
+use mathlib.Core.List.{List, [], _++_}
+use lib.ListN.{length, getD, take, drop, replicate}
 use Rattle.ivtv_rules.specs.Services.{payloadOf}
 use Rattle.ivtv_rules.specs.Lines.{lineOf}
 use Rattle.ivtv_rules.specs.Block.{itv0}
@@ -69,3 +69,32 @@ pub record ShutOut : Type 0 where
   pub takes-fill : Out TakesFill
   pub takes-all-small : Out TakesAllSmall
   pub overlooks-beyond : Out OverlooksBeyond
+
+-- ---- a machine for each fault, so that none of them is an empty worry
+
+-- it refuses everything
+abbrev pub refusesAll : Packer
+refusesAll = record { pack = λ s o. record { number = 22; output = o }; unpack = λ b o. record { number = 22; output = o } }
+
+-- it takes everything, and leaves its output as it was
+abbrev pub takesAll : Packer
+takesAll = record { pack = λ s o. record { number = 0; output = o }; unpack = λ b o. record { number = 0; output = o } }
+
+-- it writes the first record first
+abbrev pub firstFirst : Packer
+firstFirst = record { pack = λ s o. record { number = 0; output = replicate 12 0 ++ lineOf (record64 s 0) }; unpack = λ b o. record { number = 22; output = o } }
+
+-- it clears its output where it refuses
+abbrev pub clearsOutput : Packer
+clearsOutput = record { pack = λ s o. record { number = 22; output = [] }; unpack = λ b o. record { number = 22; output = [] } }
+
+pub record WrongPackers : Type 0 where
+  pub never-packs : NeverPacks refusesAll
+  pub never-unpacks : NeverUnpacks refusesAll
+  pub given-order : GivenOrder firstFirst
+  pub keeps-beyond : KeepsBeyond takesAll
+  pub takes-twice : TakesTwice takesAll
+  pub spoils-output : SpoilsOutput clearsOutput
+  pub takes-fill : TakesFill takesAll
+  pub takes-all-small : TakesAllSmall takesAll
+  pub overlooks-beyond : OverlooksBeyond takesAll

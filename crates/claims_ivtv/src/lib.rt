@@ -4,7 +4,7 @@ ghost use mathlib.Core.Path.{_≡_};
 ghost use mathlib.Core.Bool.{true};
 ghost use Rattle.claims_ivtv.specs.Packer.{ourPacker};
 ghost use Rattle.claims_ivtv.specs.Meets.{WriterExact, ReaderExact, ReadBack, WrittenBack, OneBlock, Meets, NoRoom};
-ghost use Rattle.claims_ivtv.specs.Wrong.{ShutOut};
+ghost use Rattle.claims_ivtv.specs.Wrong.{ShutOut, WrongPackers};
 
 // The writer takes exactly what has no flaw of the list, and refuses the rest with 22, nothing written.
 pub fn writer_exact() -> bool
@@ -58,6 +58,13 @@ pub fn no_other_packer() -> bool
 // No machine with one of these faults meets them.
 pub fn packing_shut_out() -> bool
     ensures { λ r. ⌜ (r ≡ true) × ShutOut ⌝ }
+{
+    true
+}
+
+// There are machines with these faults.
+pub fn wrong_packers() -> bool
+    ensures { λ r. ⌜ (r ≡ true) × WrongPackers ⌝ }
 {
     true
 }
