@@ -7,7 +7,9 @@
  *     0 done   11 EAGAIN   14 EFAULT   16 EBUSY   22 EINVAL   25 ENOTTY   34 ERANGE   75 EOVERFLOW
  *
  * 11 is DQBUF's alone and means "soon": a run is on, and a frame may arrive. Once the run is over, or before one has begun,
- * DQBUF gives 22. 25 is an unknown word; a closed device gives 22 to that too, as to everything.
+ * DQBUF gives 22. 25 is an unknown word; a closed device gives 22 to that too, as to everything. 75 is an arrival's alone: its
+ * run has accepted 9,223,372,036,854,775,807 (2^63 - 1), as many as a run can. It takes no more; what is stored can still be
+ * handed over, and the next run counts from 0.
  *
  * A device has two streams, named by their buffer type: 1, pictures (video capture), and 6, caption lines (sliced VBI
  * capture). Each has its own buffers, queues, run, verdict and memory, and a call about one leaves the other as it was.
@@ -78,7 +80,7 @@ struct tg_stream {
     uint64_t length;           /* bytes of its memory, as told at opening */
     uint64_t streaming;        /* 0: no run is on */
     uint64_t ran;              /* 0: no run was ever begun */
-    uint64_t accepted;         /* of the last run: arrivals that got a number; the next one's number */
+    uint64_t accepted;         /* of the last run: how many arrivals were accepted, up to 2^63 - 1 */
     uint64_t handed;           /* frames handed over by DQBUF */
     uint64_t damaged;          /* arrivals that were not whole */
     uint64_t dropped;          /* whole arrivals that found no buffer waiting */
@@ -87,9 +89,10 @@ struct tg_stream {
     uint64_t head;             /* where the line begins */
     uint64_t holding;          /* how many of the line hold a frame */
     uint64_t lined;            /* how many stand in the line */
-    uint64_t spare[4];         /* not used: zero */
+    uint64_t next_number;      /* the number of the next arrival: `accepted` modulo 2^32; only the low 32 bits are read */
+    uint64_t spare[3];         /* not used: zero */
     uint64_t index[32];        /* which buffer it is */
-    uint64_t number[32];       /* of its frame: the number in the run */
+    uint64_t number[32];       /* of its frame: the number in the run, below 2^32 */
     uint64_t used[32];         /* the bytes of the frame */
     uint64_t seconds[32];      /* the frame's time: the 32 bits of the signed number, zeros above them */
     uint64_t microseconds[32]; /* likewise */
@@ -110,7 +113,7 @@ enum { TG_REFUSED = 0, TG_IGNORED = 1, TG_DAMAGED = 2, TG_DROPPED = 3, TG_STORED
 
 struct tg_arrived {
     uint32_t answer; /* TG_REFUSED .. TG_STORED */
-    uint32_t number; /* refused: the number given back; stored: the frame's number in its run; else 0 */
+    uint32_t number; /* refused: the number given back; stored: the frame's number, see tg_arrival; else 0 */
     uint32_t buffer; /* stored: the index of the buffer; else 0 */
 };
 
@@ -139,12 +142,16 @@ uint32_t tg_request(struct tg_device *d, uint32_t word, uint8_t *argument, size_
  *   - of type 1: its length is the image size;
  *   - of type 6: it is records of 64 bytes, none or more, in any order: service at 0, field (0 or 1) at 4, line at 8, each
  *     of 32 bits, a reserved word and 48 bytes of payload. The service is exactly one of the four, negotiated on that line
- *     of that field by the answer of the stream's last accepted S_FMT, and no line of a field comes twice. */
+ *     of that field by the answer of the stream's last accepted S_FMT, and no line of a field comes twice.
+ * While a run is on, every arrival that is not refused is accepted: it is counted and takes a number, damaged and dropped ones
+ * too. The number is how many the run accepted before, modulo 4,294,967,296: after 4,294,967,295 it goes back to 0, and the run
+ * goes on. That of a stored frame is told here, and by QUERYBUF and DQBUF (at 44). Once a run has accepted
+ * 9,223,372,036,854,775,807, any more are refused with 75. */
 struct tg_arrived tg_arrival(struct tg_device *d, uint32_t type, uint8_t *memory, size_t memory_length,
                              const uint8_t *frame, size_t frame_length, int32_t seconds, int32_t microseconds);
 
 /* Of the stream of this type: TG_RUNNING while streaming, else the verdict on its last run: TG_BLANK, TG_GAPS or
- * TG_COMPLETE. Of another type: TG_BLANK. */
+ * TG_COMPLETE. It goes by the counts of 64 bits, not by the numbers. Of another type: TG_BLANK. */
 uint32_t tg_verdict(const struct tg_device *d, uint32_t type);
 
 /* Where a plane of a picture of the present format lies; planes count from 0. */

@@ -131,7 +131,9 @@ static void sizes(void)
     expect("offset of captions", 4520, offsetof(struct tg_device, captions));
     expect("offset of services", 6184, offsetof(struct tg_device, services));
     expect("offset of lined", 88, offsetof(struct tg_stream, lined));
-    expect("offset of spare", 96, offsetof(struct tg_stream, spare));
+    expect("offset of accepted", 24, offsetof(struct tg_stream, accepted));
+    expect("offset of next_number", 96, offsetof(struct tg_stream, next_number));
+    expect("offset of spare", 104, offsetof(struct tg_stream, spare));
     expect("offset of index", 128, offsetof(struct tg_stream, index));
     expect("offset of maps", 1408, offsetof(struct tg_stream, maps));
 }
@@ -159,7 +161,7 @@ static void unused(void)
 {
     const struct tg_stream *v = &box.device.video, *c = &box.device.captions;
     int i;
-    for (i = 0; i < 4; i++) expect("spare", 0, v->spare[i] | c->spare[i]);
+    for (i = 0; i < 3; i++) expect("spare", 0, v->spare[i] | c->spare[i]);
     for (i = 0; i < 32; i++) expect("maps", 0, v->maps[i] | c->maps[i]);
 }
 
@@ -179,6 +181,7 @@ static void fresh(const struct tg_stream *s, uint64_t length)
     expect("head", 0, s->head);
     expect("holding", 0, s->holding);
     expect("lined", 0, s->lined);
+    expect("next_number", 0, s->next_number);
     for (i = 0; i < 32; i++) {
         expect("index", 0, s->index[i]);
         expect("number", 0, s->number[i]);
@@ -312,6 +315,7 @@ static void fill(void)
     }
     expect("no buffer", TG_DROPPED, arrive(99, IMAGE, 0, 0).answer);
     expect("video.accepted", 34, v->accepted);
+    expect("video.next_number", 34, v->next_number);
     expect("video.damaged", 1, v->damaged);
     expect("video.dropped", 1, v->dropped);
     for (i = 0; i < 32; i++) holds(i, 31 - i, i + 1, -(int32_t)(i + 1), (int32_t)(i + 1));
@@ -368,6 +372,7 @@ static void go_round(void)
     expect("video.granted", 3, v->granted);
     expect("STREAMON", 0, simple(STREAMON, 1, 0, 0, 0, 0));
     expect("video.accepted", 0, v->accepted);
+    expect("video.next_number", 0, v->next_number);
     expect("video.handed", 0, v->handed);
     expect("video.damaged", 0, v->damaged);
     expect("video.dropped", 0, v->dropped);
@@ -531,6 +536,7 @@ static void caption_gap(void)
     expect("a service that was not negotiated", TG_DAMAGED, lines_arrive(RECORD, 0, 0).answer);
     expect("captions.damaged", 4, c->damaged);
     expect("captions.accepted", 6, c->accepted);
+    expect("captions.next_number", 6, c->next_number);
     expect("DQBUF of captions", 0, buffer_of(DQBUF, CAPTIONS, 0));
     expect("DQBUF of captions: bytes used", 2 * RECORD, get(argument + 8));
     expect("DQBUF of captions: number", 2, get(argument + 44));
@@ -555,6 +561,57 @@ static void other_types(void)
     a = tg_arrival(&box.device, CAPTIONS, memory, sizeof memory, frame, 0, 0, 0);
     expect("captions with the picture memory", 14, a.number);
     expect("captions.length", LINES, box.device.captions.length);
+}
+
+/* A run that is on in a stream is made so old that it has accepted so many arrivals, the new ones all handed over. */
+static void grow_old(struct tg_stream *s, uint64_t accepted)
+{
+    s->handed += accepted - s->accepted;
+    s->accepted = accepted;
+    s->next_number = accepted & 0xffffffffu;
+}
+
+/* A whole frame arrives at a stream and is handed over, both with this number. */
+static void passes(uint32_t type, uint32_t number)
+{
+    struct tg_arrived a;
+    expect("old run: QBUF", 0, buffer_of(QBUF, type, 2));
+    a = type == PICTURES ? arrive(1, IMAGE, 0, 0) : lines_arrive(0, 0, 0);
+    expect("old run: stored", TG_STORED, a.answer);
+    expect("old run: number", number, a.number);
+    expect("old run: QUERYBUF", 0, buffer_of(QUERYBUF, type, 2));
+    expect("old run: QUERYBUF: number", number, get(argument + 44));
+    expect("old run: DQBUF", 0, buffer_of(DQBUF, type, 0));
+    expect("old run: DQBUF: number", number, get(argument + 44));
+}
+
+/* The numbers of a run go back to 0, and the run goes on; at its limit it takes no more, and its film is complete. */
+static void old_run(struct tg_stream *s, uint32_t type)
+{
+    struct tg_device before;
+    struct tg_arrived a;
+    expect("old run: STREAMON", 0, simple(STREAMON, type, 0, 0, 0, 0));
+    passes(type, 0);
+    grow_old(s, 4294967294u);
+    passes(type, 4294967294u);
+    passes(type, 4294967295u);
+    passes(type, 0);
+    passes(type, 1);
+    expect("old run: accepted", 4294967298u, s->accepted);
+    expect("old run: next_number", 2, s->next_number);
+    grow_old(s, 9223372036854775806u);
+    passes(type, 4294967294u);
+    memcpy(&before, &box.device, sizeof before);
+    a = type == PICTURES ? arrive(1, IMAGE, 0, 0) : lines_arrive(0, 0, 0);
+    expect("old run: refused", TG_REFUSED, a.answer);
+    expect("old run: refused: number", 75, a.number);
+    expect("old run: refused: device", 0, (uint64_t)memcmp(&before, &box.device, sizeof before));
+    expect("old run: STREAMOFF", 0, simple(STREAMOFF, type, 0, 0, 0, 0));
+    expect("old run: accepted", 9223372036854775807u, s->accepted);
+    expect("old run: verdict", TG_COMPLETE, verdict(type));
+    expect("old run: STREAMON", 0, simple(STREAMON, type, 0, 0, 0, 0));
+    passes(type, 0);
+    expect("old run: STREAMOFF", 0, simple(STREAMOFF, type, 0, 0, 0, 0));
 }
 
 /* What is lent to the packing, one byte in: the byte before and all that are behind stay as they were. */
@@ -662,6 +719,8 @@ int main(void)
     both_complete();
     caption_gap();
     other_types();
+    old_run(&box.device.video, PICTURES);
+    old_run(&box.device.captions, CAPTIONS);
     unused();
     outside_a_run();
     planes();

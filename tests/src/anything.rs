@@ -1,6 +1,7 @@
 //! Devices of any content: random bytes, or an opened device with some of its bytes changed. No history leads to them,
 //! so they are not compared with the model. They must be answered, within the numbers that exist, and a refused call
-//! must change nothing.
+//! must change nothing. Of an arrival more can be told: the limit goes by the count of a run and the number by the word that
+//! has the next one, whether or not the two agree.
 
 use crate::coverage::{Coverage, NUMBERS};
 use crate::ffi::{at, Device, DEVICE_SIZE};
@@ -9,13 +10,14 @@ use crate::guarded::Guarded;
 use crate::model::bytes::{half, word};
 use crate::model::services::Lines;
 use crate::model::words::{size, G_FMT};
+use crate::model::RUN_LIMIT;
 use crate::random::{self, Random};
-use crate::recorder::{Arrived, Recorder, BLANK, CAPTIONS, COMPLETE, PICTURES, REFUSED, STORED, STREAMS};
+use crate::recorder::{Arrived, Recorder, BLANK, CAPTIONS, COMPLETE, IGNORED, PICTURES, REFUSED, STORED, STREAMS};
 use crate::session::{Arrival, Frame, Lent, Step};
 use crate::show;
 
-/// Numbers for words of 64 bits: small, about 32, about 2^32 and about 2^64.
-pub const NUMBERS_64: [u64; 24] = [
+/// Numbers for words of 64 bits: small, about 32, about 2^32, about 2^63 and about 2^64.
+pub const NUMBERS_64: [u64; 25] = [
     0,
     1,
     2,
@@ -35,6 +37,7 @@ pub const NUMBERS_64: [u64; 24] = [
     1 << 32,
     (1 << 32) + 1,
     (1 << 32) + 31,
+    (1 << 63) - 2,
     (1 << 63) - 1,
     1 << 63,
     u64::MAX - 31,
@@ -82,7 +85,7 @@ fn one(seed: u64, coverage: &mut Coverage) -> Result<(), String> {
             spoiled(&mut device, step, &mut memories, &mut random, coverage)
                 .map_err(|fault| format!("{}: {fault}", show::step(step)))?;
         }
-        coverage.calls += 1;
+        coverage.calls += u64::from(step.is_call());
     }
     Ok(())
 }
@@ -90,7 +93,7 @@ fn one(seed: u64, coverage: &mut Coverage) -> Result<(), String> {
 /// A device of zeros refuses every call with 22, is BLANK and stays a device of zeros.
 fn closed(device: &mut Device, step: &Step, memory: &mut [u8]) -> Result<(), String> {
     let number = match step {
-        Step::Open { .. } => 22,
+        Step::Open { .. } | Step::Age(_) => 22,
         Step::Request { word, argument } => device.request(*word, &mut argument.clone()),
         Step::Arrival(one) => {
             let arrived = device.arrival(one.kind, memory, &[], one.seconds, one.microseconds);
@@ -125,6 +128,12 @@ fn spoiled(
         Step::Request { word, argument } => coverage.request(*word, argument, request(device, *word, argument)?),
         Step::Arrival(one) => coverage.arrival(one.kind, arrival(device, memories, one, random)?),
         Step::Plane { frame_length, plane: index } => plane(device, *frame_length, *index)?,
+        // The count alone: the next number stays what it was, and whether a run is on does not matter.
+        Step::Age(age) => {
+            if let Some(stream) = Device::stream(age.kind) {
+                device.put_word(stream + at::ACCEPTED, age.accepted);
+            }
+        }
     }
     verdicts(device)
 }
@@ -178,8 +187,11 @@ fn content(random: &mut Random, lengths: [u64; 2]) -> Device {
             device.put_word(stream + at::STREAMING, 1);
         }
         if random.chance(10) {
-            // Near the last number of a run.
-            device.put_word(stream + at::ACCEPTED, u64::from(u32::MAX) + random.below(5) as u64 - 2);
+            // Near the last number of a run, or near its end.
+            let edge = random.pick(&[1 << 32, RUN_LIMIT]);
+            device.put_word(stream + at::ACCEPTED, edge + random.below(5) as u64 - 3);
+            let next = number(random);
+            device.put_word(stream + at::NEXT_NUMBER, next);
         }
     }
     device
@@ -215,13 +227,13 @@ fn services(random: &mut Random) -> u16 {
     }
 }
 
-/// One word of the device becomes another: one of the twelve numbers of a stream, any word of a stream, a set of services, or
+/// One word of the device becomes another: one of the thirteen numbers of a stream, any word of a stream, a set of services, or
 /// one of the words of 32 bits between `from` and the streams.
 fn change_word(random: &mut Random, device: &mut Device, from: usize) {
     let stream = random.pick(&at::STREAMS);
     match random.weighted(&[4, 3, 1, 3]) {
         0 => {
-            let at = stream + 8 * random.below(12);
+            let at = stream + 8 * random.below(13);
             device.put_word(at, number(random));
         }
         1 => {
@@ -299,6 +311,7 @@ pub fn arrival(
     let held = memories.each_ref().map(|memory| memory.body().to_vec());
     let wanted = if random.chance(70) { fitting(device, one.kind, random) } else { None };
     let before = kept(device);
+    let count = counted(device, one.kind);
     let told = wanted.as_ref().unwrap_or(&one.frame);
     let mut frame = Guarded::default();
     frame.reset(told.length, 3);
@@ -323,7 +336,30 @@ pub fn arrival(
         check(arrived.number != 0 && NUMBERS.contains(&arrived.number), "a refusal without its number")?;
         check(kept(device) == before, "a refusal changed the device")?;
     }
+    if let (Some(before), Some(after)) = (count, counted(device, one.kind)) {
+        numbered(before, after, arrived)?;
+    }
     Ok(arrived)
+}
+
+/// How many the run of a stream accepted, and the word that has the next number.
+fn counted(device: &Device, kind: u32) -> Option<[u64; 2]> {
+    let stream = Device::stream(kind)?;
+    Some([at::ACCEPTED, at::NEXT_NUMBER].map(|at| device.word(stream + at)))
+}
+
+/// An arrival between two such counts. Of the next number only 32 bits count.
+fn numbered([accepted, next]: [u64; 2], after: [u64; 2], arrived: Arrived) -> Result<(), String> {
+    let number = next as u32;
+    match arrived.answer {
+        REFUSED => check(arrived.number != 75 || accepted >= RUN_LIMIT, "75 below the limit"),
+        IGNORED => Ok(()),
+        answer => {
+            check(answer != STORED || arrived.number == number, "a number that was not the next one")?;
+            check(accepted < RUN_LIMIT, "accepted past the limit")?;
+            check(after == [accepted + 1, number.wrapping_add(1).into()], "an accepted arrival that was not counted")
+        }
+    }
 }
 
 /// A plane, with what holds of every plane.

@@ -8,12 +8,22 @@ use crate::tops::{Top, TOPS};
 use crate::walk::{Asked, ASKED};
 use std::fmt;
 
-/// The numbers that can be given back. 75 needs 2^32 accepted arrivals in one run, which is out of reach here.
+/// The numbers that can be given back. 75 needs 2^63 - 1 accepted arrivals in one run: it comes since some runs are made old.
 pub const NUMBERS: [u32; 8] = [0, 11, 14, 16, 22, 25, 34, 75];
 
 const ANSWERS: [&str; 5] = ["refused", "ignored", "damaged", "dropped", "stored"];
 const VERDICTS: [&str; 4] = ["RUNNING", "BLANK", "GAPS", "COMPLETE"];
 const NAMES: [&str; 2] = ["pictures", "captions"];
+
+/// What is seen of runs that were made old: a number that went back to 0, and the verdicts on their films.
+#[derive(Clone, Copy)]
+pub enum Aged {
+    BackToZero,
+    Complete,
+    Gaps,
+}
+
+const AGED: [&str; 3] = ["back to number 0", "COMPLETE", "GAPS"];
 /// The calls that ask for sizes.
 const SIZING: [(u32, &str); 2] = [(S_FMT, "S_FMT"), (TRY_FMT, "TRY_FMT")];
 
@@ -62,6 +72,7 @@ struct Seen {
     arrivals: Row,
     answers: [u64; 5],
     verdicts: [u64; 4],
+    aged: [u64; AGED.len()],
 }
 
 #[derive(Default, Clone)]
@@ -177,6 +188,12 @@ impl Coverage {
         }
     }
 
+    pub fn aged(&mut self, kind: u32, aged: Aged) {
+        if let Some(place) = place(kind) {
+            self.streams[place].aged[aged as usize] += 1;
+        }
+    }
+
     /// The numbers given back to requests and arrivals, and the answers to arrivals, on one line.
     pub fn in_short(&self) -> String {
         let of_streams = self.streams.iter().flat_map(|seen| seen.requests.iter().chain([&seen.arrivals]));
@@ -205,7 +222,7 @@ impl Coverage {
             for (row, (name, expected)) in seen.dequeues.iter().zip(DEQUEUES) {
                 rows.push((name.to_string(), row, expected));
             }
-            rows.push((format!("{stream} arrive"), &seen.arrivals, &[0, 14, 22]));
+            rows.push((format!("{stream} arrive"), &seen.arrivals, &[0, 14, 22, 75]));
         }
         rows.push(("other types".into(), &self.other_requests, &[14, 22]));
         rows.push(("- arrive".into(), &self.other_arrivals, &[22]));
@@ -221,6 +238,7 @@ impl Coverage {
         for (seen, stream) in self.streams.iter().zip(NAMES) {
             lists.push((format!("{stream}, arrivals"), ANSWERS.into_iter().zip(seen.answers).collect()));
             lists.push((format!("{stream}, verdicts"), VERDICTS.into_iter().zip(seen.verdicts).collect()));
+            lists.push((format!("{stream}, old runs"), AGED.into_iter().zip(seen.aged).collect()));
         }
         let judged = JUDGED.iter().map(|(_, name)| *name).zip(self.judged).collect();
         lists.push(("captions, frames of a run".into(), judged));

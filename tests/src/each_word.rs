@@ -1,5 +1,5 @@
-//! A device in the middle of a run of each stream whose words hold what no history leads to: each word by itself, and the
-//! numbers of a line together. On each such device every call is made once.
+//! A device in the middle of a run of each stream whose words hold what no history leads to: each word by itself, the numbers
+//! of a line together, and the count of a run together with its next number. On each such device every call is made once.
 
 use crate::anything::{arrival, check, plane, request, verdicts, Memories, NUMBERS_16, NUMBERS_32, NUMBERS_64};
 use crate::ask::done;
@@ -9,8 +9,9 @@ use crate::ffi::{at, Device};
 use crate::model::bytes::put;
 use crate::model::format::GREY;
 use crate::model::words::*;
+use crate::model::RUN_LIMIT;
 use crate::random::Random;
-use crate::recorder::{Recorder, CAPTIONS, PICTURES, STORED, STREAMS};
+use crate::recorder::{Arrived, Recorder, CAPTIONS, PICTURES, REFUSED, STORED, STREAMS};
 use crate::session::{Arrival, Frame, Lent, Step};
 use crate::show;
 
@@ -120,6 +121,26 @@ impl Bench {
             }
         }
         Ok(())
+    }
+
+    /// Two frames arrive at the stream of this place, for which buffers 5 and 6 wait: the numbers that they get, as long as the
+    /// run is not at its limit. The other stream goes on by its own count.
+    fn two_arrivals(&mut self, mut device: Device, place: usize, accepted: u64, next: u32) -> Result<(), String> {
+        let stored = |number, buffer| Arrived { answer: STORED, number, buffer };
+        for (count, buffer) in [(accepted, 5), (accepted.saturating_add(1), 6)] {
+            let number = next.wrapping_add(buffer - 5);
+            let expected = match count {
+                0..RUN_LIMIT => stored(number, buffer),
+                _ => Arrived { answer: REFUSED, number: 75, buffer: 0 },
+            };
+            let arrived = self.arrives(&mut device, place);
+            check(arrived == expected, &format!("{arrived:?} instead of {expected:?}"))?;
+        }
+        check(self.arrives(&mut device, 1 - place) == stored(32, 5), "the other stream does not go on")
+    }
+
+    fn arrives(&mut self, device: &mut Device, place: usize) -> Arrived {
+        device.arrival(STREAMS[place], self.memories[place].body_mut(), &frame(place).bytes(), 1, 2)
     }
 
     /// Two devices give the same answers to every call.
@@ -233,5 +254,34 @@ fn one_line(bench: &mut Bench, stream: usize, [head, holding, lined, granted]: [
     let clamped = with(&bench.device, [head % 32, holding.min(lined).min(32), lined.min(32), granted]);
     bench.every_call(&device)?;
     bench.same_answers(&device, &clamped)?;
+    bench.round(device)
+}
+
+/// The count and the next number of a run hold many numbers together, most of which no history brings together. The limit goes by
+/// the count alone, and the number by the low 32 bits of its word alone.
+pub fn each_count() -> Result<Coverage, String> {
+    let mut bench = Bench::new();
+    let counts = [0, 32, (1 << 32) - 1, 1 << 32, RUN_LIMIT - 1, RUN_LIMIT, RUN_LIMIT + 1, u64::MAX];
+    let numbers = [0, 7, (1 << 32) - 2, (1 << 32) - 1, 1 << 32, (1 << 32) + 7, RUN_LIMIT, u64::MAX];
+    for (place, accepted) in [0, 1].into_iter().flat_map(|place| counts.map(|accepted| (place, accepted))) {
+        for next in numbers {
+            one_count(&mut bench, place, accepted, next)
+                .map_err(|fault| format!("type {}, {accepted} accepted, next {next:#x}: {fault}", STREAMS[place]))?;
+        }
+    }
+    Ok(bench.coverage)
+}
+
+fn one_count(bench: &mut Bench, place: usize, accepted: u64, next: u64) -> Result<(), String> {
+    let with = |base: &Device, next: u64| {
+        let mut device = base.clone();
+        device.put_word(at::STREAMS[place] + at::ACCEPTED, accepted);
+        device.put_word(at::STREAMS[place] + at::NEXT_NUMBER, next);
+        device
+    };
+    let (device, low) = (with(&bench.device, next), with(&bench.device, next % (1 << 32)));
+    bench.every_call(&device)?;
+    bench.same_answers(&device, &low)?;
+    bench.two_arrivals(device.clone(), place, accepted, next as u32)?;
     bench.round(device)
 }

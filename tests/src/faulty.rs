@@ -1,12 +1,12 @@
 //! Copies of the model with one fault each. The tests show that every one of them is found.
 
-use crate::model::buffers::Stream;
+use crate::model::buffers::{Place, Stream};
 use crate::model::bytes::{half, put, put_half, put_signed, signed, word};
 use crate::model::control::NEXT;
 use crate::model::crop::Rectangle;
 use crate::model::services::{Lines, RECORD, SERVICES};
 use crate::model::words::*;
-use crate::model::{Device, LONGEST_MEMORY};
+use crate::model::{Device, LONGEST_MEMORY, RUN_LIMIT};
 use crate::recorder::*;
 
 #[derive(Clone, Copy, Debug, PartialEq)]
@@ -54,9 +54,15 @@ pub enum Fault {
     CaptionLengthUnchecked,
     EmptyCaptionDamaged,
     CaptionOrderAsked,
+    LimitOneLower,
+    LimitOneHigher,
+    CaptionsKeepOldLimit,
+    NumberStaysAtLast,
+    NumberGoesBackEarly,
+    VerdictByReducedCounts,
 }
 
-pub const FAULTS: [Fault; 43] = [
+pub const FAULTS: [Fault; 49] = [
     Fault::NewestOutgoingFirst,
     Fault::VerdictConstant,
     Fault::FailedDequeueCounted,
@@ -100,6 +106,12 @@ pub const FAULTS: [Fault; 43] = [
     Fault::CaptionLengthUnchecked,
     Fault::EmptyCaptionDamaged,
     Fault::CaptionOrderAsked,
+    Fault::LimitOneLower,
+    Fault::LimitOneHigher,
+    Fault::CaptionsKeepOldLimit,
+    Fault::NumberStaysAtLast,
+    Fault::NumberGoesBackEarly,
+    Fault::VerdictByReducedCounts,
 ];
 
 pub struct Faulty {
@@ -328,9 +340,14 @@ impl Recorder for Faulty {
         };
         let other = if kind == CAPTIONS { self.other_frame(frame) } else { None };
         let frame = other.as_deref().unwrap_or(frame);
+        if self.is_over(kind, memory.len()) {
+            return Arrived { answer: REFUSED, number: 75, buffer: 0 };
+        }
         let before = memory.to_vec();
         let negotiated = self.negotiate_all();
-        let arrived = self.device.arrival(kind, memory, frame, seconds, microseconds);
+        let count = self.device.accepted(kind).unwrap_or(0);
+        let over = self.step_back(kind);
+        let mut arrived = self.device.arrival(kind, memory, frame, seconds, microseconds);
         let Some(opened) = self.device.opened_mut() else {
             return arrived;
         };
@@ -338,6 +355,7 @@ impl Recorder for Faulty {
         let Some(stream) = opened.stream_mut(kind) else {
             return arrived;
         };
+        stream.run.accepted += over;
         let slot = stream.slot() as usize;
         let start = arrived.buffer as usize * slot;
         match (self.fault, arrived.answer) {
@@ -353,7 +371,14 @@ impl Recorder for Faulty {
                 memory[other..other + frame.len()].copy_from_slice(frame);
             }
             (Fault::FirstFrameOnly, STORED) if arrived.number > 0 => memory.copy_from_slice(&before),
+            (Fault::NumberStaysAtLast, STORED) => arrived.number = count.min(u32::MAX.into()) as u32,
+            (Fault::NumberGoesBackEarly, STORED) => arrived.number = (count % u64::from(u32::MAX)) as u32,
+            (Fault::LimitOneHigher, STORED) => arrived.number = count as u32,
             _ => {}
+        }
+        // A buffer is told by the number that was answered.
+        if let (STORED, Place::Outgoing(told)) = (arrived.answer, &mut stream.places[arrived.buffer as usize]) {
+            told.number = arrived.number;
         }
         arrived
     }
@@ -362,12 +387,17 @@ impl Recorder for Faulty {
         match (self.fault, self.device.verdict(kind)) {
             (Fault::VerdictConstant, verdict) if verdict != RUNNING => COMPLETE,
             (Fault::VerdictOfCaptions, _) if kind == PICTURES => self.device.verdict(CAPTIONS),
+            (Fault::VerdictByReducedCounts, GAPS | COMPLETE) => self.reduced_verdict(kind),
             (_, verdict) => verdict,
         }
     }
 
     fn plane(&self, frame_length: usize, plane: u32) -> Plane {
         self.device.plane(frame_length, plane)
+    }
+
+    fn age(&mut self, kind: u32, past: Past) {
+        self.device.age(kind, past);
     }
 
     fn scramble(&mut self, seed: u64) {
@@ -387,6 +417,42 @@ impl Faulty {
         let captions = |stream: &Stream| stream.kind == CAPTIONS;
         let buffers = self.device.opened().is_some_and(|opened| opened.pictures.granted > 0);
         request == S_FMT && buffers && self.stream(request, argument).is_some_and(captions)
+    }
+
+    /// The run of a stream takes no more, by the limit that the fault gives it; the length of its memory comes first.
+    fn is_over(&self, kind: u32, lent: usize) -> bool {
+        let limit = match self.fault {
+            Fault::LimitOneLower => RUN_LIMIT - 1,
+            Fault::LimitOneHigher => RUN_LIMIT + 1,
+            Fault::CaptionsKeepOldLimit if kind == CAPTIONS => u32::MAX.into(),
+            _ => RUN_LIMIT,
+        };
+        let stream = self.device.opened().and_then(|opened| opened.stream(kind));
+        let is_own = stream.is_some_and(|stream| stream.memory_length == lent as u64);
+        is_own && self.device.accepted(kind).is_some_and(|accepted| accepted >= limit)
+    }
+
+    /// For one fault, a run at its limit counts one fewer while an arrival is answered: how many fewer.
+    fn step_back(&mut self, kind: u32) -> u64 {
+        let stream = self.device.opened_mut().and_then(|opened| opened.stream_mut(kind));
+        match stream.filter(|stream| stream.streaming && stream.run.accepted == RUN_LIMIT) {
+            Some(stream) if self.fault == Fault::LimitOneHigher => {
+                stream.run.accepted -= 1;
+                1
+            }
+            _ => 0,
+        }
+    }
+
+    /// The verdict on a run that was not BLANK, by 32 bits of each count.
+    fn reduced_verdict(&self, kind: u32) -> u32 {
+        let run = self.device.opened().and_then(|opened| opened.stream(kind)).map(|stream| stream.run);
+        let run = run.unwrap_or_default();
+        match (run.handed_over as u32, run.accepted as u32) {
+            (0, _) => BLANK,
+            (handed, accepted) if handed == accepted => COMPLETE,
+            _ => GAPS,
+        }
     }
 
     /// For one fault, all services that ever were take the place of those that are; the latter are given back.

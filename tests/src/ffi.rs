@@ -2,7 +2,7 @@
 
 use crate::packing::Packer;
 use crate::random;
-use crate::recorder::{Arrived, Plane, Recorder};
+use crate::recorder::{Arrived, Past, Plane, Recorder, STREAMS};
 
 /// The size of the C interface's device, in bytes. There is nothing between its fields or behind them.
 pub const DEVICE_SIZE: usize = 6280;
@@ -20,16 +20,20 @@ pub mod at {
     pub const SERVICES: usize = CAPTIONS + STREAM;
     pub const END: usize = SERVICES + 96;
 
-    /// In a stream: first twelve numbers.
+    /// In a stream: first thirteen numbers.
     pub const LENGTH: usize = 0;
     pub const STREAMING: usize = 8;
     pub const ACCEPTED: usize = 24;
+    pub const HANDED: usize = 32;
+    pub const DAMAGED: usize = 40;
     pub const DROPPED: usize = 48;
+    pub const DISCARDED: usize = 56;
     pub const GRANTED: usize = 64;
     pub const HEAD: usize = 72;
     pub const HOLDING: usize = 80;
     pub const LINED: usize = 88;
-    /// Behind four spare words: six arrays of 32, the indices of the line first.
+    pub const NEXT_NUMBER: usize = 96;
+    /// Behind three spare words: six arrays of 32, the indices of the line first.
     pub const INDEX: usize = 128;
     pub const STREAM: usize = INDEX + 6 * 256;
 }
@@ -80,6 +84,12 @@ impl Device {
         self.bytes[at..at + 8].copy_from_slice(&word.to_le_bytes());
     }
 
+    /// Where the stream of this type stands.
+    pub fn stream(kind: u32) -> Option<usize> {
+        let place = STREAMS.iter().position(|known| *known == kind)?;
+        Some(at::STREAMS[place])
+    }
+
     /// Puts a set of services for one line, past all calls.
     pub fn put_services(&mut self, at: usize, set: u16) {
         self.bytes[at..at + 2].copy_from_slice(&set.to_le_bytes());
@@ -113,6 +123,32 @@ impl Recorder for Device {
     fn plane(&self, frame_length: usize, plane: u32) -> Plane {
         // SAFETY: see above.
         unsafe { tg_plane(self, frame_length, plane) }
+    }
+
+    /// Each word goes on from what it holds, so that a device which miscounted before still does.
+    fn age(&mut self, kind: u32, past: Past) {
+        let Some(stream) = Device::stream(kind) else { return };
+        let counts = [
+            (at::ACCEPTED, past.accepted()),
+            (at::HANDED, past.handed),
+            (at::DAMAGED, past.damaged),
+            (at::DROPPED, past.dropped),
+        ];
+        for (at, more) in counts {
+            self.put_word(stream + at, self.word(stream + at).wrapping_add(more));
+        }
+        let number = self.word(stream + at::NEXT_NUMBER) as u32;
+        self.put_word(stream + at::NEXT_NUMBER, number.wrapping_add(past.accepted() as u32).into());
+    }
+
+    /// What was accepted was handed over, damaged, dropped, discarded, or is held; and the next number is its count reduced.
+    fn adds_up(&self) -> bool {
+        at::STREAMS.into_iter().all(|stream| {
+            let became = [at::HANDED, at::DAMAGED, at::DROPPED, at::DISCARDED, at::HOLDING];
+            let sum = became.into_iter().fold(0, |sum: u64, at| sum.wrapping_add(self.word(stream + at)));
+            let accepted = self.word(stream + at::ACCEPTED);
+            sum == accepted && self.word(stream + at::NEXT_NUMBER) == accepted % (1 << 32)
+        })
     }
 
     fn content(&self, into: &mut Vec<u8>) {

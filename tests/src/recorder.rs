@@ -29,6 +29,21 @@ pub struct Arrived {
     pub buffer: u32,
 }
 
+/// Arrivals that a run is given past all calls, by what became of them.
+#[derive(Clone, Copy, Debug, Default, PartialEq, Eq)]
+pub struct Past {
+    pub handed: u64,
+    pub damaged: u64,
+    pub dropped: u64,
+}
+
+impl Past {
+    /// All of them were accepted.
+    pub fn accepted(&self) -> u64 {
+        self.handed + self.damaged + self.dropped
+    }
+}
+
 /// Where a plane lies in a frame, or a refusal: 22, 0, 0.
 #[repr(C)]
 #[derive(Clone, Copy, Debug, PartialEq, Eq)]
@@ -47,6 +62,19 @@ pub trait Recorder {
     fn arrival(&mut self, kind: u32, memory: &mut [u8], frame: &[u8], seconds: i32, microseconds: i32) -> Arrived;
     fn verdict(&self, kind: u32) -> u32;
     fn plane(&self, frame_length: usize, plane: u32) -> Plane;
+
+    /// Adds arrivals to the run that is on in a stream, past all calls, since nobody can wait for so many.
+    fn age(&mut self, kind: u32, past: Past);
+
+    /// How many arrivals were accepted by the run that is on in a stream. Only the expecting side is asked.
+    fn accepted(&self, _kind: u32) -> Option<u64> {
+        None
+    }
+
+    /// The counts of each run agree with each other and with the next number, as far as they can be seen.
+    fn adds_up(&self) -> bool {
+        true
+    }
 
     /// Fills what the device is made of with bytes of this seed, before an opening; 0 stands for zero bytes.
     fn scramble(&mut self, _seed: u64) {}
@@ -81,6 +109,18 @@ impl Recorder for model::Device {
 
     fn plane(&self, frame_length: usize, plane: u32) -> Plane {
         model::Device::plane(self, frame_length, plane)
+    }
+
+    fn age(&mut self, kind: u32, past: Past) {
+        if let Some(stream) = self.opened_mut().and_then(|opened| opened.stream_mut(kind)) {
+            stream.run.accepted += past.accepted();
+            stream.run.handed_over += past.handed;
+        }
+    }
+
+    fn accepted(&self, kind: u32) -> Option<u64> {
+        let stream = self.opened().and_then(|opened| opened.stream(kind))?;
+        stream.streaming.then_some(stream.run.accepted)
     }
 
     fn scramble(&mut self, _seed: u64) {

@@ -1,15 +1,17 @@
 //! Runs one session on two devices and compares everything that can be seen after every step.
 
 use crate::ask::ask;
-use crate::coverage::{Coverage, Stream};
+use crate::coverage::{Aged, Coverage, Stream};
 use crate::fields;
 use crate::guarded::Guarded;
 use crate::judge::{judge, Judged};
 use crate::model::bytes::{signed, word};
 use crate::model::words::{size, DQBUF, G_CROP, G_FMT, QUERYBUF, S_CROP, S_FMT, TRY_FMT};
 use crate::random;
-use crate::recorder::{Recorder, BLANK, CAPTIONS, DAMAGED, IGNORED, PICTURES, REFUSED, RUNNING, STREAMS};
-use crate::session::{made_length, Arrival, Lent, Session, Step};
+use crate::recorder::{
+    Recorder, BLANK, CAPTIONS, COMPLETE, DAMAGED, GAPS, IGNORED, PICTURES, REFUSED, RUNNING, STORED, STREAMS,
+};
+use crate::session::{made_length, Age, Arrival, Lent, Session, Step};
 use crate::tops::Lines;
 use crate::walk::Grid;
 use std::fmt::Debug;
@@ -47,6 +49,9 @@ pub struct Runner {
     grids: [Grid; 2],
     /// The lines of its bounds, and what the crop was made of.
     lines: Lines,
+    /// Of each stream: whether a run is on, and whether the last one grew old.
+    running: [bool; 2],
+    aged: [bool; 2],
     /// What the tested device kept before and after a call.
     before: Vec<u8>,
     after: Vec<u8>,
@@ -65,8 +70,9 @@ impl Runner {
         expected.scramble(before);
         tested.scramble(before);
         self.prepare_memories([0, 0], 0);
+        (self.running, self.aged) = Default::default();
         for (place, step) in session.steps.iter().enumerate() {
-            coverage.calls += 1;
+            coverage.calls += u64::from(step.is_call());
             self.step(place, step, expected, tested, coverage)
                 .and_then(|()| self.probe(place, expected, tested, coverage))
                 .map_err(|difference| Difference { step: place, ..difference })?;
@@ -90,6 +96,7 @@ impl Runner {
                 coverage.opening(number);
                 self.prepare_memories(lengths.map(made_length), sheet.len() as u64);
                 self.ever = vec![0; size(S_FMT)];
+                (self.running, self.aged) = Default::default();
                 if number == 0 {
                     self.grids = Grid::both(sheet);
                     self.lines = Lines::of(sheet);
@@ -123,6 +130,21 @@ impl Runner {
                 coverage.plane(answer.number);
                 same("plane", &answer, &tested.plane(*frame_length, *plane))
             }
+            Step::Age(age) => {
+                self.age(age, expected, tested);
+                Ok(())
+            }
+        }
+    }
+
+    /// Both sides are given the same arrivals: a count that differed before still differs.
+    fn age<E: Recorder, T: Recorder>(&mut self, age: &Age, expected: &mut E, tested: &mut T) {
+        let Some(now) = expected.accepted(age.kind) else { return };
+        let past = age.past(now);
+        expected.age(age.kind, past);
+        tested.age(age.kind, past);
+        for (kind, aged) in STREAMS.iter().zip(&mut self.aged) {
+            *aged |= *kind == age.kind && past.accepted() > 0;
         }
     }
 
@@ -233,9 +255,13 @@ impl Runner {
         };
         tested.content(&mut self.before);
         let (kind, seconds, microseconds) = (arrival.kind, arrival.seconds, arrival.microseconds);
+        let accepted = expected.accepted(kind).unwrap_or(0);
         let answer = expected.arrival(kind, left.body_mut(), &self.copy, seconds, microseconds);
         let got = tested.arrival(kind, right.body_mut(), self.frame.body(), seconds, microseconds);
         coverage.arrival(kind, answer);
+        if answer.answer == STORED && answer.number == 0 && accepted > 0 {
+            coverage.aged(kind, Aged::BackToZero);
+        }
         same("answer to the arrival", &answer, &got)?;
         same_bytes(name, left.body(), right.body()).map_err(|(_, found)| found)?;
         intact(name, right)?;
@@ -258,6 +284,18 @@ impl Runner {
         same_bytes("device after a refusal", &self.before, &self.after).map_err(|(_, found)| found)
     }
 
+    /// The verdict on a run that grew old; one that begins is young.
+    fn old_run(&mut self, stream: usize, verdict: u32, coverage: &mut Coverage) {
+        let (was_running, is_running) = (self.running[stream], verdict == RUNNING);
+        self.running[stream] = is_running;
+        self.aged[stream] &= was_running || !is_running;
+        match verdict {
+            COMPLETE if self.aged[stream] => coverage.aged(STREAMS[stream], Aged::Complete),
+            GAPS if self.aged[stream] => coverage.aged(STREAMS[stream], Aged::Gaps),
+            _ => {}
+        }
+    }
+
     /// The verdicts and a plane after every step, all planes after every eighth.
     fn probe<E: Recorder, T: Recorder>(
         &mut self,
@@ -266,11 +304,13 @@ impl Runner {
         tested: &T,
         coverage: &mut Coverage,
     ) -> Result<(), Difference> {
-        for kind in STREAMS {
+        for (stream, kind) in STREAMS.into_iter().enumerate() {
             let verdict = expected.verdict(kind);
             coverage.verdict(kind, verdict);
+            self.old_run(stream, verdict, coverage);
             same(&format!("verdict of type {kind}"), &verdict, &tested.verdict(kind))?;
         }
+        same("counts and next numbers that add up", &true, &tested.adds_up())?;
         let other = OTHER_TYPES[place % OTHER_TYPES.len()];
         same(&format!("verdict of type {other}"), &BLANK, &tested.verdict(other))?;
         let size = expected.image_size();

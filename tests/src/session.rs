@@ -2,7 +2,7 @@
 
 use crate::model::services::RECORD;
 use crate::random;
-use crate::recorder::STREAMS;
+use crate::recorder::{Past, STREAMS};
 
 /// Longer memories are not made: such a device is opened, but lent an empty memory.
 pub const LONGEST_MADE: u64 = 4 << 20;
@@ -16,13 +16,43 @@ pub struct Session {
     pub steps: Vec<Step>,
 }
 
-/// A call. The lengths at an opening are those of the picture memory and of the caption memory.
+/// A call, or a run that grows old without one. The lengths at an opening are those of the picture memory and of the caption
+/// memory.
 #[derive(Clone)]
 pub enum Step {
     Open { sheet: Vec<u8>, lengths: [u64; 2] },
     Request { word: u32, argument: Vec<u8> },
     Arrival(Arrival),
     Plane { frame_length: usize, plane: u32 },
+    Age(Age),
+}
+
+impl Step {
+    pub fn is_call(&self) -> bool {
+        !matches!(self, Step::Age(_))
+    }
+}
+
+/// The run of a stream is made so old that it has accepted this many arrivals. Of those that it did not have before, so many
+/// were damaged and so many dropped, and the others were handed over. If no run is on, or one that has more, nothing happens.
+///
+/// The count is told and not what is added to it, so that a session can lose steps and still come to the same count.
+#[derive(Clone, Copy)]
+pub struct Age {
+    pub kind: u32,
+    pub accepted: u64,
+    pub damaged: u64,
+    pub dropped: u64,
+}
+
+impl Age {
+    /// What is added to a run that has accepted `now`.
+    pub fn past(&self, now: u64) -> Past {
+        let more = self.accepted.saturating_sub(now);
+        let damaged = self.damaged.min(more);
+        let dropped = self.dropped.min(more - damaged);
+        Past { handed: more - damaged - dropped, damaged, dropped }
+    }
 }
 
 #[derive(Clone)]

@@ -5,7 +5,7 @@ use crate::model::sheet;
 use crate::model::words::{self, *};
 use crate::recorder::CAPTIONS;
 use crate::runner::{hex, Difference};
-use crate::session::{Arrival, Lent, Session, Step};
+use crate::session::{Age, Arrival, Lent, Session, Step};
 
 /// How a field is written.
 #[derive(Clone, Copy)]
@@ -154,11 +154,19 @@ fn arrival(arrival: &Arrival) -> String {
     text
 }
 
+/// The count that a run comes to without a call.
+fn age(age: &Age) -> String {
+    let Age { kind, accepted, damaged, dropped } = age;
+    let lost = format!("{damaged} of those that are added damaged, {dropped} dropped");
+    format!("the run of type {kind} is made old: {accepted} accepted, {lost}")
+}
+
 pub fn step(step: &Step) -> String {
     match step {
         Step::Open { sheet, lengths } => opening(sheet, *lengths),
         Step::Request { word, argument } => request(*word, argument),
         Step::Arrival(one) => arrival(one),
+        Step::Age(one) => age(one),
         Step::Plane { frame_length, plane } => format!("plane {plane} of a frame of {frame_length} bytes"),
     }
 }

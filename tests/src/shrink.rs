@@ -2,7 +2,7 @@
 
 use crate::model::services::RECORD;
 use crate::runner::Difference;
-use crate::session::{Arrival, Frame, Session, Step};
+use crate::session::{Age, Arrival, Frame, Session, Step};
 
 /// No more than this many sessions are tried.
 const TRIES: usize = 30_000;
@@ -89,6 +89,7 @@ impl<F: FnMut(&Session) -> Option<Difference>> Shrinker<F> {
                 Step::Arrival(_) => self.simplify_arrival(place) | self.drop_records(place),
                 Step::Open { .. } => self.simplify_opening(place),
                 Step::Plane { .. } => false,
+                Step::Age(age) => self.simplify_age(place, age) | self.age_further(place),
             };
             place += 1;
         }
@@ -169,6 +170,49 @@ impl<F: FnMut(&Session) -> Option<Difference>> Shrinker<F> {
             at += usize::from(!dropped);
         }
         simpler
+    }
+
+    /// Nothing damaged, nothing dropped.
+    fn simplify_age(&mut self, place: usize, age: Age) -> bool {
+        let mut simpler = false;
+        if age.damaged != 0 {
+            simpler |= self.consider_step(place, |step| {
+                if let Step::Age(age) = step {
+                    age.damaged = 0;
+                }
+            });
+        }
+        if age.dropped != 0 {
+            simpler |= self.consider_step(place, |step| {
+                if let Step::Age(age) = step {
+                    age.dropped = 0;
+                }
+            });
+        }
+        simpler
+    }
+
+    /// As long as it can be: the run comes one arrival further by itself, and the next arrival is left out.
+    fn age_further(&mut self, place: usize) -> bool {
+        let mut simpler = false;
+        while let Some(candidate) = self.one_further(place) {
+            if !self.consider(candidate) {
+                break;
+            }
+            simpler = true;
+        }
+        simpler
+    }
+
+    fn one_further(&self, place: usize) -> Option<Session> {
+        let mut candidate = self.best.clone();
+        let Some(Step::Age(age)) = candidate.steps.get_mut(place) else { return None };
+        age.accepted = age.accepted.saturating_add(1);
+        let kind = age.kind;
+        let arrives = |step: &Step| matches!(step, Step::Arrival(arrival) if arrival.kind == kind);
+        let behind = candidate.steps[place..].iter().position(arrives)?;
+        candidate.steps.remove(place + behind);
+        Some(candidate)
     }
 
     /// Zeroes the texts of a sheet, and takes away a control at the end.

@@ -31,6 +31,13 @@ pub fn trace(session: &Session) -> Vec<String> {
                 let (frame, time) = (arrival.frame.bytes(), (arrival.seconds, arrival.microseconds));
                 format!("{:?}", device.arrival(arrival.kind, lent, &frame, time.0, time.1))
             }
+            Step::Age(age) => match device.accepted(age.kind) {
+                None => "none, since no run is on".into(),
+                Some(now) => {
+                    device.age(age.kind, age.past(now));
+                    format!("none, with {:?} added", age.past(now))
+                }
+            },
             Step::Plane { frame_length, plane } => format!("{:?}", Recorder::plane(&device, *frame_length, *plane)),
         };
         let [pictures, captions] = STREAMS.map(|kind| device.verdict(kind));

@@ -82,6 +82,7 @@ fn figures<R: Recorder>(make: impl Fn() -> R) {
     contrast(Bench::new(make()));
     verdicts(Bench::new(make()));
     numbers(Bench::new(make()));
+    NUMBERS.iter().for_each(|(count, arrived)| numbers_of_an_old_run(Bench::new(make()), *count, *arrived));
 }
 
 /// Sizes asked for and answered: between two, half way and one more at the first two, in the middle and at the last two, and
@@ -201,6 +202,31 @@ fn numbers<R: Recorder>(mut bench: Bench<R>) {
     assert_eq!(word(&bench.dequeue(), 44), 1);
     bench.done(STREAMOFF, &[(0, 1)]);
     assert_eq!(bench.device.verdict(PICTURES), GAPS);
+}
+
+/// Counts of accepted arrivals, and what is answered to the next one.
+const NUMBERS: [(u64, Arrived); 6] = [
+    (4_294_967_294, Arrived { answer: STORED, number: 4_294_967_294, buffer: 2 }),
+    (4_294_967_295, Arrived { answer: STORED, number: 4_294_967_295, buffer: 2 }),
+    (4_294_967_296, Arrived { answer: STORED, number: 0, buffer: 2 }),
+    (4_294_967_297, Arrived { answer: STORED, number: 1, buffer: 2 }),
+    (9_223_372_036_854_775_806, Arrived { answer: STORED, number: 4_294_967_294, buffer: 2 }),
+    (9_223_372_036_854_775_807, Arrived { answer: REFUSED, number: 75, buffer: 0 }),
+];
+
+fn numbers_of_an_old_run<R: Recorder>(mut bench: Bench<R>, count: u64, arrived: Arrived) {
+    let size = word(&bench.format(YUYV, 304, 224), 24) as usize;
+    bench.buffers(3);
+    bench.queue(2);
+    bench.done(STREAMON, &[(0, 1)]);
+    bench.device.age(PICTURES, Past { handed: count, ..Past::default() });
+    assert_eq!(bench.arrive(size, 1), arrived, "{count} accepted before");
+    if arrived.answer == STORED {
+        assert_eq!(word(&bench.done(QUERYBUF, &[(0, 2), (4, 1)]), 44), arrived.number);
+        assert_eq!(word(&bench.dequeue(), 44), arrived.number);
+    }
+    bench.done(STREAMOFF, &[(0, 1)]);
+    assert_eq!(bench.device.verdict(PICTURES), COMPLETE);
 }
 
 #[test]

@@ -15,6 +15,10 @@ use tollgutter_tests::{generate, random};
 
 const SESSIONS: u64 = 3000;
 
+/// A run accepts so many arrivals, and gives them so many numbers.
+const LIMIT: u64 = 9_223_372_036_854_775_807;
+const NUMBERS: u64 = 4_294_967_296;
+
 /// An arrival that found a buffer.
 struct Found {
     index: u32,
@@ -65,6 +69,14 @@ impl Paper {
             self.streaming = true;
             (self.accepted, self.handed_over, self.damaged, self.dropped, self.discarded) = (0, 0, 0, 0, 0);
         }
+    }
+
+    /// Arrivals that nobody saw.
+    fn age(&mut self, past: Past) {
+        self.accepted += past.accepted();
+        self.handed_over += past.handed;
+        self.damaged += past.damaged;
+        self.dropped += past.dropped;
     }
 
     /// A request about this stream, with its argument before and after.
@@ -119,7 +131,8 @@ impl Paper {
 
     /// An arrival while streaming that was not refused.
     fn arrival(&mut self, one: &Arrival, frame: &[u8], arrived: Arrived) {
-        let number = self.accepted as u32;
+        assert!(self.accepted < LIMIT, "accepted past the limit");
+        let number = (self.accepted % NUMBERS) as u32;
         self.accepted += 1;
         let whole = match self.kind {
             PICTURES => frame.len() == self.frame_size() && (0..1_000_000).contains(&one.microseconds),
@@ -195,6 +208,13 @@ fn session<R: Recorder>(device: &mut R, seed: u64) {
                 }
             }
             Step::Plane { .. } => {}
+            Step::Age(age) => {
+                for paper in papers.iter_mut().filter(|paper| paper.kind == age.kind && paper.streaming) {
+                    let past = age.past(paper.accepted);
+                    device.age(age.kind, past);
+                    paper.age(past);
+                }
+            }
         }
         for paper in &papers {
             paper.check(device.verdict(paper.kind));
@@ -214,6 +234,7 @@ fn arrival<R: Recorder>(device: &mut R, papers: &mut [Paper; 2], one: &Arrival, 
     let arrived = device.arrival(one.kind, memory, &frame, one.seconds, one.microseconds);
     check_memory(&before, memory, arrived, &frame, paper.frame_size());
     match arrived.answer {
+        REFUSED if arrived.number == 75 => assert!(paper.streaming && paper.accepted == LIMIT, "75 below the limit"),
         REFUSED => {}
         IGNORED => assert!(!paper.streaming),
         _ => {

@@ -6,7 +6,7 @@ use tollgutter_tests::model::words::{self, ALL};
 use tollgutter_tests::model::{self, Device};
 use tollgutter_tests::random::{self, Random};
 use tollgutter_tests::recorder::*;
-use tollgutter_tests::session::Step;
+use tollgutter_tests::session::{Age, Step};
 
 /// Every known word has the letter V, and the argument that it names is the one that the model takes.
 #[test]
@@ -81,7 +81,37 @@ fn refusals_leave_the_argument() {
     }
 }
 
-/// After 2^32 - 1 accepted arrivals the run takes no more; the count is set here, since no session gets that far.
+/// What is added to a run brings it to the count that is told and no further, whatever it had before.
+#[test]
+fn an_old_run_has_the_count_that_is_told() {
+    let counts = [0, 1, 5, 1 << 32, model::RUN_LIMIT - 1, model::RUN_LIMIT];
+    for accepted in counts {
+        for (damaged, dropped) in counts.into_iter().flat_map(|damaged| counts.map(|dropped| (damaged, dropped))) {
+            let age = Age { kind: PICTURES, accepted, damaged, dropped };
+            for now in counts {
+                let past = age.past(now);
+                assert_eq!(now + past.accepted(), accepted.max(now));
+                assert!(past.damaged <= damaged && past.dropped <= dropped);
+            }
+        }
+    }
+}
+
+/// Sessions make runs of both streams old, up to the limit and not past it, and lose no more arrivals than are added.
+#[test]
+fn sessions_make_runs_old() {
+    let steps = (0..2000).flat_map(|index| generate::session(random::mix(index)).steps);
+    let ages: Vec<Age> = steps.filter_map(|step| if let Step::Age(age) = step { Some(age) } else { None }).collect();
+    for kind in STREAMS {
+        for edge in [1 << 32, model::RUN_LIMIT] {
+            let near = |age: &&Age| age.kind == kind && edge - 6 <= age.accepted && age.accepted <= edge;
+            assert!(ages.iter().filter(near).count() > 50, "type {kind} about {edge}");
+        }
+    }
+    assert!(ages.iter().all(|age| age.accepted <= model::RUN_LIMIT && age.damaged + age.dropped <= age.accepted));
+}
+
+/// After 2^63 - 1 accepted arrivals the run takes no more; the count is set here, since nobody can wait for it.
 #[test]
 fn a_run_has_a_limit() {
     let refused = Arrived { answer: REFUSED, number: 75, buffer: 0 };
@@ -94,6 +124,7 @@ fn a_run_has_a_limit() {
             stream.start();
         }
         let stream = device.opened_mut().and_then(|opened| opened.stream_mut(kind)).expect("a stream of this type");
+        assert_eq!(model::RUN_LIMIT, 9_223_372_036_854_775_807);
         stream.run.accepted = model::RUN_LIMIT - 1;
         assert_eq!(device.arrival(kind, &mut memory, &[1], 0, 0).answer, DAMAGED);
         assert_eq!(device.arrival(kind, &mut memory, &[1], 0, 0), refused);

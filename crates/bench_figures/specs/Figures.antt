@@ -1,5 +1,6 @@
 -- The figures of the bench: one table, each row computed from a bench sheet by the definitions that the contracts cite.
-use Prim.Native.Nat.{ℕ}
+use Prim.Native.Nat.{ℕ, _-_}
+use mathlib.Core.Bool.{true}
 use mathlib.Core.List.{List, [], _∷_}
 use lib.IntN.{ℤ, pos, negℤ}
 use lib.ListN.{length, replicate}
@@ -11,9 +12,13 @@ use Rattle.format_rules.specs.Code.{YUYV, YU12}
 use Rattle.format_rules.specs.Size.{bytesPerLine, imageSize}
 use Rattle.stream_slots.specs.Slot.{slotSize}
 use Rattle.stream_run.specs.Switches.{grantOf}
+use Rattle.stream_run.specs.Stream.{reduced}
+use Rattle.stream_words.specs.Stream.{Stream}
+use Rattle.stream_arrival.specs.Arrivals.{arrivalOf}
+use Rattle.arrival_replies.specs.Answer.{toldOf}
 use Rattle.wire_read.specs.Words.{wordAt, bytesOf}
 use Rattle.sheet_copy.specs.Copy.{keptOf}
-use Rattle.stream_verdict.specs.Film.{verdictNumber}
+use Rattle.stream_verdict.specs.Film.{verdictOf, verdictNumber}
 use Rattle.device_state.specs.State.{State}
 use Rattle.device_state.specs.Answers.{Answer}
 use Rattle.request_topics.specs.Request.{requestAnswer}
@@ -154,6 +159,26 @@ abbrev ranEmpty : State → State
 ranEmpty d =
     asked (asked (asked d 0xC0145608 (10 ∷ 1 ∷ 1 ∷ 0 ∷ 0 ∷ [])) 0x40045612 (1 ∷ [])) 0x40045613 (1 ∷ [])
 
+-- ---- long runs
+
+-- a stream in a run, or after it: of n arrivals so many were handed over, and buffer 0 waits
+abbrev aged : ℕ → ℕ → ℕ → Stream
+aged on n over = record {
+  length = benchMemory;
+  streaming = on;
+  run = record { ran = 1; accepted = n; handed = over; damaged = n - over; dropped = 0; discarded = 0 };
+  number = reduced n;
+  queues = record { granted = 1; incoming = 0 ∷ []; outgoing = [] };
+}
+
+-- the number in the answer to a whole frame behind n arrivals: its own, or that of a refusal
+abbrev numberBehind : ℕ → ℤ
+numberBehind n = pos (toldOf (arrivalOf (aged 1 n n) benchMemory 64 true 64 (record { seconds = pos 0; microseconds = pos 0 }) .arrival) .number)
+
+-- the verdict on a film of n arrivals, so many handed over
+abbrev filmOf : ℕ → ℕ → ℤ
+filmOf n over = pos (verdictNumber (verdictOf (aged 0 n over)))
+
 -- ---- the table
 
 -- by the state of the opened device, and that of the one with odd tops
@@ -245,6 +270,16 @@ figuresOf d o =
     ∷ pos (io 0x0200) gives pos 0
     ∷ captionsGranted (serving d 0x0200) 10 gives pos 0
     ∷ captionsGranted d 10 gives pos 0
+    -- numbers: the last but one, the last, 0 again; the last frame that a run takes, and 75 behind it
+    ∷ numberBehind 4294967294 gives pos 4294967294
+    ∷ numberBehind 4294967295 gives pos 4294967295
+    ∷ numberBehind 4294967296 gives pos 0
+    ∷ numberBehind 9223372036854775806 gives pos 4294967294
+    ∷ numberBehind 9223372036854775807 gives pos 75
+    -- films of 2 ^ 32 + 5 frames: all handed over, COMPLETE; all but one, and only five: GAPS
+    ∷ filmOf 4294967301 4294967301 gives pos 3
+    ∷ filmOf 4294967301 4294967300 gives pos 2
+    ∷ filmOf 4294967301 5 gives pos 2
     ∷ []
 
 unfoldable pub figures : List Figure

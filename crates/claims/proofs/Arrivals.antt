@@ -2,10 +2,9 @@
 use mathlib.Core.Path.{_≡_, refl, ap}
 use mathlib.Core.Logic.{_≢_}
 use mathlib.Core.Bool.{Bool, true, false, cond, not, _&&_}
-use Prim.Native.Nat.{ℕ, _^_, _<_}
+use Prim.Native.Nat.{ℕ}
 use native.Mathlib.Omega.{arith}
-use native.Mathlib.Nat.{mod-eq-of-lt}
-use borrow.Author.Tests.{eqb-true, leb-false, le-leb}
+use borrow.Author.Tests.{eqb-true, le-leb}
 use lib.Dec.{eqb, leb, ltb}
 use mathlib.Core.List.{List, [], _∷_}
 use lib.ListN.{length}
@@ -17,7 +16,7 @@ use Rattle.stream_words.specs.Moves.{nextOf}
 use Rattle.stream_run.specs.Stream.{streaming}
 use Rattle.stream_arrival.specs.declared.Arrival.{Arrival}
 use Rattle.stream_arrival.specs.declared.Arrival.the-variants as arrivals
-use Rattle.stream_arrival.specs.Arrivals.{Arrived, runLimit, arrivedAs, countedRun, damagedRun, placedIn, placedOf, acceptedOf, arrivalOf, writtenBy}
+use Rattle.stream_arrival.specs.Arrivals.{Arrived, runLimit, arrivedAs, countedRun, counted, damagedRun, placedIn, placedOf, acceptedOf, arrivalOf, writtenBy}
 use Rattle.picture_rules.specs.Picture.{inSecond, wholePicture}
 use Rattle.caption_rules.proofs.Fits.{caption-short}
 use Rattle.sheet_copy.specs.Copy.{keptOf}
@@ -50,29 +49,24 @@ whole-short Kind.captions d f t = caption-short (d .services) f t
 module _ (s : Stream) (lent n : ℕ) (w : Bool) (size : ℕ) (t : Time) (short : (w && leb n size) ≡ w) where
   stream-answers : (arrivalOf s lent n w size t .arrival
       ≡ refusedBy (check (not (eqb lent (s .length))) MemoryLength ∷ check (streaming s && leb runLimit (s .run .accepted)) RunFull ∷ [])
-      (cond (not (streaming s)) arrivals.Ignored (cond w (placedOn (s .queues .incoming) (s .run .accepted)) arrivals.Damaged)))
+      (cond (not (streaming s)) arrivals.Ignored (cond w (placedOn (s .queues .incoming) (s .number)) arrivals.Damaged)))
       × (arrivalNumber (arrivalOf s lent n w size t .arrival) ≢ 0 → arrivalOf s lent n w size t .stream ≡ s)
   unfolding arrivalOf acceptedOf placedOf
-  stream-answers = rw short (go (not (eqb lent (s .length))) (streaming s) (leb runLimit (s .run .accepted)) refl w (s .queues .incoming))
+  stream-answers = rw short (go (not (eqb lent (s .length))) (streaming s) (leb runLimit (s .run .accepted)) w (s .queues .incoming))
     where
-      c : Stream
-      c = withRun s (countedRun (s .run))
-
       r : Bool → Bool → Bool → Bool → List ℕ → Arrived
       r x y z u i = cond x (arrivedAs (arrivals.Refused MemoryLength) s) (cond (not y) (arrivedAs arrivals.Ignored s) (cond z (arrivedAs (arrivals.Refused RunFull) s)
-          (cond u (placedIn (nextOf i) (withRun s (countedRun (s .run))) (s .run .accepted) n t) (arrivedAs arrivals.Damaged (withRun (withRun s (countedRun (s .run))) (damagedRun (countedRun (s .run))))))))
+          (cond u (placedIn (nextOf i) (counted s) (s .number) n t) (arrivedAs arrivals.Damaged (withRun (counted s) (damagedRun (countedRun (s .run))))))))
 
-      go : (x y z : Bool) → leb runLimit (s .run .accepted) ≡ z → (u : Bool) (i : List ℕ)
-          → (r x y z u i .arrival ≡ refusedBy (check x MemoryLength ∷ check (y && z) RunFull ∷ []) (cond (not y) arrivals.Ignored (cond u (placedOn i (s .run .accepted)) arrivals.Damaged)))
+      go : (x y z u : Bool) (i : List ℕ)
+          → (r x y z u i .arrival ≡ refusedBy (check x MemoryLength ∷ check (y && z) RunFull ∷ []) (cond (not y) arrivals.Ignored (cond u (placedOn i (s .number)) arrivals.Damaged)))
           × (arrivalNumber (r x y z u i .arrival) ≢ 0 → r x y z u i .stream ≡ s)
-      go true y z e u i = (refl, λ h. refl)
-      go false false z e u i = (refl, λ h. refl)
-      go false true true e u i = (refl, λ h. refl)
-      go false true false e false i = (refl, λ h. absurd (h refl))
-      go false true false e true [] = (refl, λ h. absurd (h refl))
-      go false true false e true (k ∷ i) =
-          let small : s .run .accepted < 2 ^ 32 = omega (arith, leb-false runLimit (s .run .accepted) e) in
-          (ap (arrivals.Stored k) (mod-eq-of-lt small), λ h. absurd (h refl))
+      go true y z u i = (refl, λ h. refl)
+      go false false z u i = (refl, λ h. refl)
+      go false true true u i = (refl, λ h. refl)
+      go false true false false i = (refl, λ h. absurd (h refl))
+      go false true false true [] = (refl, λ h. absurd (h refl))
+      go false true false true (k ∷ i) = (refl, λ h. absurd (h refl))
 
 -- what an arrival of a type is answered, and that a refusal changes nothing
 pub taken-is : (d : State) (t lent : ℕ) (f : List ℕ) (time : Time) → (takenOf d t lent f time .arrival ≡ refusedBy (arrivalChecks d t lent) (arrivedBy (kindOf t) d f time))

@@ -1,15 +1,14 @@
 -- Our device and its memories between two calls, and what was to be proved of them.
 use mathlib.Core.Path.{_≡_}
 use Prim.Native.Nat.{ℕ, _+_}
-use mathlib.Core.Bool.{cond}
 use mathlib.Core.List.{List, [], _∷_, _++_}
-use lib.Dec.{eqb}
 use lib.ListN.{length, take, drop}
 use Rattle.wire_read.specs.Words.{wordAt}
 use Rattle.wire_signed.specs.Signed.{signedAt}
 use Rattle.ioctl_table.specs.Table.{requestOf}
 use Rattle.ioctl_table.specs.declared.table.Call.the-variants.{Qbuf, Dqbuf}
 use Rattle.stream_slots.specs.Slot.{slotOffset}
+use Rattle.stream_run.specs.Stream.{reduced}
 use Rattle.stream_arrival.specs.declared.Arrival.the-variants.{Stored}
 use Rattle.device_state.specs.State.{State}
 use Rattle.device_state.specs.Answers.{Answer}
@@ -129,7 +128,7 @@ module _ (s : List ℕ) (m : Kind → List ℕ) (k : Kind) (before : List Call) 
   abbrev pub StoredInIt : Type 0
   StoredInIt = (f : List ℕ) (x y : ℕ) (other : List ℕ) → Accepted → wholes since ≡ i
       → told k (paperAfter s m k upTo) (arrival (typeOf k) f x y other) (seen (boxAfter s m upTo) (arrival (typeOf k) f x y other)) ≡ whole f (arrivalTime x y)
-      → (reply (boxAfter s m upTo) (arrival (typeOf k) f x y other) ≡ taken (Stored (wordAt a 0) (paperAfter s m k upTo .run .accepted)))
+      → (reply (boxAfter s m upTo) (arrival (typeOf k) f x y other) ≡ taken (Stored (wordAt a 0) (reduced (paperAfter s m k upTo .run .accepted))))
       × (take (length f) (drop (slotOffset (wordAt a 0) (paperAfter s m k upTo .size)) (next (boxAfter s m upTo) (arrival (typeOf k) f x y other) .memory k)) ≡ f)
 
 -- The whole accepted arrival among calls before which n whole ones came.
@@ -153,7 +152,7 @@ module _ (s : List ℕ) (m : Kind → List ℕ) (k : Kind) (before : List Call) 
       → requestOf v .call ≡ Dqbuf → wordAt c 4 ≡ typeOf k → reply (boxAfter s m (upTo s m k before w a mid)) (request v c) ≡ answered 0 b
       → (r : ArrivalAmong k (boxAfter s m (queued s m k before w a mid)) (paperAfter s m k (queued s m k before w a mid)) mid (i s m k before w a mid))
       × (wordAt b 0 ≡ wordAt a 0)
-      × (wordAt b 44 ≡ paperAfter s m k (upTo s m k before w a (r .front)) .run .accepted)
+      × (wordAt b 44 ≡ reduced (paperAfter s m k (upTo s m k before w a (r .front)) .run .accepted))
       × (wordAt b 8 ≡ length (r .frame))
       × (signedAt b 20 ≡ arrivalTime (r .seconds) (r .microseconds) .seconds)
       × (signedAt b 24 ≡ arrivalTime (r .seconds) (r .microseconds) .microseconds)

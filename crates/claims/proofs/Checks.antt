@@ -80,4 +80,4 @@ arrivalChecks d t lent =
 abbrev pub arrivedBy : Kind → State → List ℕ → Time → Arrival
 arrivedBy k d f t =
     cond (not (streaming (streamOf k d))) Ignored
-    (cond (wholeOn k (sizeOf k d) (d .services) f t) (placedOn (streamOf k d .queues .incoming) (streamOf k d .run .accepted)) Damaged)
+    (cond (wholeOn k (sizeOf k d) (d .services) f t) (placedOn (streamOf k d .queues .incoming) (streamOf k d .number)) Damaged)

@@ -17,8 +17,8 @@ use Rattle.sheet_geometry.specs.Geometry.{lineAlignment}
 use Rattle.stream_words.specs.declared.Time.{Time}
 use Rattle.stream_slots.specs.Slot.{slotOffset}
 use Rattle.stream_slots.proofs.Slots.{slots-apart}
+use Rattle.stream_run.specs.Stream.{reduced}
 use Rattle.stream_arrival.specs.declared.Arrival.the-variants as arrivals
-use Rattle.stream_arrival.specs.Arrivals.{runLimit}
 use Rattle.stream_status.specs.declared.Status.{Status}
 use Rattle.stream_verdict.specs.Film.{verdictOf}
 use Rattle.stream_verdict.specs.declared.Verdict.{Verdict}
@@ -33,7 +33,7 @@ use Rattle.stream_history.specs.Paper.Event.{put, whole, damaged, handed, begun
 use Rattle.stream_history.specs.Claims.{_⇔_}
 use Rattle.stream_history.proofs.Lists.{All, all-append}
 use Rattle.stream_history.proofs.Sound.{Fits, sound-blank}
-use Rattle.stream_history.proofs.Numbers.{Ordered, ordered-after, ordered-blank}
+use Rattle.stream_history.proofs.Rising.{Ordered, ordered-after, ordered-blank}
 use Rattle.stream_history.proofs.Tied.{Tied, Held, entry, placedAs, firstOf}
 use Rattle.stream_history.proofs.Order.{At, Leaves, pairOf, comes-first, leaves}
 use Rattle.stream_history.proofs.Machine.{leaves-append, noted-tells, Cut, cut, keeps-after, legal-tells}
@@ -50,7 +50,7 @@ use Rattle.claims.specs.Words.{typeAt, requestTold, toldBy, told, openin
 use Rattle.claims.specs.Table.{wholeOn}
 use Rattle.claims.specs.Device.{streamOf}
 use Rattle.claims.proofs.Checks.{sizeOf}
-use Rattle.service_rules.specs.Negotiation.{countBelow, ioSize}
+use Rattle.service_rules.specs.Negotiation.{ioSize}
 use Rattle.service_rules.proofs.Counts.{count-most}
 use Rattle.device_state.specs.State.{State}
 
@@ -82,23 +82,23 @@ module _ (kd : Kind) where
   -- the first incoming buffer is k: a whole arrival is stored there
   stored-now : (b : Box) (p : Paper) (k : ℕ) (r : List ℕ) (f : List ℕ) (x y : ℕ) (other : List ℕ) → Safe kd b p → p .incoming ≡ k ∷ r
       → told kd p (arrival (typeOf kd) f x y other) (seen b (arrival (typeOf kd) f x y other)) ≡ whole f (arrivalTime x y)
-      → (reply b (arrival (typeOf kd) f x y other) ≡ taken (arrivals.Stored k (p .run .accepted)))
+      → (reply b (arrival (typeOf kd) f x y other) ≡ taken (arrivals.Stored k (reduced (p .run .accepted))))
       × (take (length f) (drop (slotOffset k (p .size)) (next b (arrival (typeOf kd) f x y other) .memory kd)) ≡ f)
   stored-now b p k r f x y other s e h =
       let c : Call = arrival (typeOf kd) f x y other in
-      let a : reply b c ≡ taken (placedAs (p .incoming) (p .run .accepted)) = subst (λ (v : Event). Foretold kd p v (reply b c)) h (foretold-next kd b p c s) in
+      let a : reply b c ≡ taken (placedAs (p .incoming) (reduced (p .run .accepted))) = subst (λ (v : Event). Foretold kd p v (reply b c)) h (foretold-next kd b p c s) in
       let n : Tied (view kd (next b c)) (step p (whole f (arrivalTime x y))) = subst (λ (v : Event). Tied (view kd (next b c)) (step p v)) h (safe-next kd b p c s .kept .tied) in
       let m : List ℕ = next b c .memory kd in
       let all : All (Held (p .size) m) (filled (k ∷ r) (frameOf p f (arrivalTime x y)) (p .outgoing)) =
       subst (λ (l : List ℕ). All (Held (p .size) m) (filled l (frameOf p f (arrivalTime x y)) (p .outgoing))) e (n .held) in (
-        a ∙ ap (λ (l : List ℕ). taken (placedAs l (p .run .accepted))) e,
+        a ∙ ap (λ (l : List ℕ). taken (placedAs l (reduced (p .run .accepted)))) e,
         all-append (Held (p .size) m) (p .outgoing) (pairOf k p f (arrivalTime x y) ∷ []) all .1 .0 .1,
       )
 
   -- What the answer of a dequeue says of x, the pair that it hands over.
   record Says (b : Box) (p : Paper) (x : Pair) (a : List ℕ) : Type 0 where
     index : wordAt a 0 ≡ x .index
-    number : wordAt a 44 ≡ x .frame .number
+    number : wordAt a 44 ≡ reduced (x .frame .place)
     used : wordAt a 8 ≡ length (x .frame .bytes)
     seconds : signedAt a 20 ≡ x .frame .time .seconds
     microseconds : signedAt a 24 ≡ x .frame .time .microseconds
@@ -109,14 +109,13 @@ module _ (kd : Kind) where
   says b p x r s e =
       let st : Status = returnedOf (entry x) (p .size) in
       let held : Held (p .size) (b .memory kd) x = subst (All (Held (p .size) (b .memory kd))) e (s .kept .tied .held) .0 in
-      let low : x .frame .number < runLimit = subst (All (λ y. y .frame .number < runLimit)) e (s .kept .sound .low) .0 in
       let timed : Timed (x .frame .time) = subst (All (λ y. Timed (y .frame .time))) e (s .timed) .0 in
       let below : x .index < p .granted = subst (λ (l : List Pair). All (λ k. k < p .granted) (map indexOf l ++ p .incoming)) e (s .kept .sound .below) .0 in
       let image : p .size ≤ 302764032 = omega (arith, s .kept .tied .size, size-most b p s) in
       let at : slotOffset (x .index) (p .size) < 2 ^ 32 = omega (arith, slots-apart (x .index) (p .granted) (p .size) below, s .kept .tied .fits, s .short) in
       record {
         index = buffer-index (typeOf kd) st (omega (arith, below, s .kept .sound .few));
-        number = buffer-number (typeOf kd) st (omega (arith, low));
+        number = buffer-number (typeOf kd) st (omega arith);
         used = buffer-used (typeOf kd) st (omega (arith, held .0, image));
         seconds = buffer-seconds (typeOf kd) st (timed .0);
         microseconds = buffer-microseconds (typeOf kd) st (timed .1);
@@ -207,7 +206,7 @@ module _ (kd : Kind) where
   stores-at : (b : Box) (p : Paper) (k : ℕ) (mid : List Call) (f : List ℕ) (x y : ℕ) (other : List ℕ) → Safe kd b (step p (put k))
       → Calm (events kd b (step p (put k)) mid) → wholes (events kd b (step p (put k)) mid) ≡ length (p .incoming)
       → told kd (noted (step p (put k)) (events kd b (step p (put k)) mid)) (arrival (typeOf kd) f x y other) (seen (after b mid) (arrival (typeOf kd) f x y other)) ≡ whole f (arrivalTime x y)
-      → (reply (after b mid) (arrival (typeOf kd) f x y other) ≡ taken (arrivals.Stored k (noted (step p (put k)) (events kd b (step p (put k)) mid) .run .accepted)))
+      → (reply (after b mid) (arrival (typeOf kd) f x y other) ≡ taken (arrivals.Stored k (reduced (noted (step p (put k)) (events kd b (step p (put k)) mid) .run .accepted))))
       × (take (length f) (drop (slotOffset k (noted (step p (put k)) (events kd b (step p (put k)) mid) .size)) (next (after b mid) (arrival (typeOf kd) f x y other) .memory kd)) ≡ f)
   stores-at b p k mid f x y other s c n h =
       let (r, e) = comes-first p k (events kd b (step p (put k)) mid) c n in
@@ -218,7 +217,7 @@ module _ (kd : Kind) where
   ComesBack b q k mid a n =
       (r : ArrivalAmong kd b q mid n)
       × (wordAt a 0 ≡ k)
-      × (wordAt a 44 ≡ noted q (events kd b q (r .front)) .run .accepted)
+      × (wordAt a 44 ≡ reduced (noted q (events kd b q (r .front)) .run .accepted))
       × (wordAt a 8 ≡ length (r .frame))
       × (signedAt a 20 ≡ arrivalTime (r .seconds) (r .microseconds) .seconds)
       × (signedAt a 24 ≡ arrivalTime (r .seconds) (r .microseconds) .microseconds)
@@ -247,7 +246,7 @@ module _ (kd : Kind) where
           returned-now (after b mid) now-paper (pairOf k (noted q (l .at .front)) (l .at .bytes) (l .at .time)) (l .behind) v c a now-safe (l .first) w d h in (
             arrival-of b q mid (length (p .incoming)) (l .at) t y,
             z .index,
-            z .number ∙ ap (λ (es : List Event). noted q es .run .accepted) (sym (t .tells-front)),
+            z .number ∙ ap (λ (es : List Event). reduced (noted q es .run .accepted)) (sym (t .tells-front)),
             z .used,
             z .seconds ∙ ap (λ (u : Time). u .seconds) (sym (y .time)),
             z .microseconds ∙ ap (λ (u : Time). u .microseconds) (sym (y .time)),
@@ -321,7 +320,7 @@ module _ (s : List ℕ) (m : Kind → List ℕ) (kd : Kind) (start : Safe kd (op
       let q : Paper = paperAfter s m kd (before ++ request w a ∷ []) in
       let (r, x1, x2, x3, x4, x5, x6) = returns-on kd box (paperAfter s m kd before) q (wordAt a 0) mid v g b (paper-in s m kd before w a e nm b2 h) (safe-at s m kd start (before ++ request w a ∷ [])) c n d dn
       (rw (box-mid s m kd before w a mid) at t) in
-      (r, x1, x2 ∙ ap (λ (p : Paper). p .run .accepted) (sym (paper-mid s m kd before w a (r .front))), x3, x4, x5, rw (box-mid s m kd before w a mid) x6)
+      (r, x1, x2 ∙ ap (λ (p : Paper). reduced (p .run .accepted)) (sym (paper-mid s m kd before w a (r .front))), x3, x4, x5, rw (box-mid s m kd before w a mid) x6)
 
 -- a closed device
 module _ (s : List ℕ) (m : Kind → List ℕ) (kd : Kind) (start : opened s m .state ≡ closedState) where

@@ -2,7 +2,7 @@
 use mathlib.Core.Path.{_≡_, refl, sym, ap, ap₂, _∙_, subst}
 use borrow.Author.Tests.{ne-eqb}
 use Rattle.stream_words.specs.declared.Time.{Time}
-use mathlib.Core.Bool.{Bool, true, false, cond, not}
+use mathlib.Core.Bool.{Bool, true, false, cond}
 use Prim.Native.Nat.{ℕ, _+_, _*_}
 use native.Mathlib.Omega.{arith}
 use lib.Dec.{eqb, leb}
@@ -13,9 +13,10 @@ use Rattle.wire_signed.specs.Signed.{signedAt}
 use Rattle.ioctl_table.specs.Table.{requestOf, argumentSize}
 use Rattle.ioctl_table.specs.declared.table.Call.{Call as Asked}
 use Rattle.ioctl_table.specs.declared.table.Call.the-variants.{Querybuf}
-use Rattle.ioctl_table.specs.declared.refusals.Refusal.the-variants.{Closed, MemoryLength, WrongType, NoSuchIndex}
+use Rattle.ioctl_table.specs.declared.refusals.Refusal.the-variants.{Closed, MemoryLength, NoSuchIndex}
 use Rattle.stream_slots.specs.Slot.{slotOffset}
 use Rattle.stream_words.specs.Moves.{standingOf}
+use Rattle.stream_run.specs.Stream.{reduced}
 use Rattle.stream_arrival.specs.declared.Arrival.{Arrival}
 use Rattle.stream_arrival.specs.declared.Arrival.the-variants.{Refused, Stored}
 use Rattle.stream_arrival.specs.Arrivals.{writtenBy}
@@ -26,21 +27,20 @@ use Rattle.stream_status.specs.Buffer.{flagsFor, describedOf, statusOf, queryOf
 use Rattle.buffer_replies.specs.Replies.{bufferReply}
 use Rattle.buffer_replies.proofs.Lengths.{buffer-length, buffer-flags}
 use Rattle.device_state.specs.State.{State, closedState}
-use Rattle.device_state.specs.Answers.{Answer, refused}
+use Rattle.device_state.specs.Answers.{Answer}
 use Rattle.buffer_calls.specs.Buffers.{queriedAs, querybufOf}
 use Rattle.stream_words.specs.Stream.{Stream}
 use Rattle.buffer_calls.specs.Buffers.{StreamAnswer}
 use Rattle.request_topics.specs.Request.{streamCall, callAnswer}
 use Rattle.device_film.specs.Film.{takenOf, takenMemory, frameSize}
 use Rattle.stream_history.specs.Paper.{Paper, blank, handedOver, noted, wholes, dequeues}
-use Rattle.stream_history.specs.Paper.Event.{whole}
 use Rattle.stream_history.specs.Claims.{timesIn, timesOut}
 use Rattle.stream_history.proofs.Machine.{leaves-append, noted-tells}
 use Rattle.claims.specs.Calls.{Kind, typeOf, Call, Reply, arrivalTime}
 use Rattle.claims.specs.Calls.Call.{request, arrival}
 use Rattle.claims.specs.Calls.Reply.{answered, taken}
 use Rattle.claims.specs.Machine.{more}
-use Rattle.claims.specs.Words.{told, seenIn, openingSize, eventsIn, paperIn, handedIn}
+use Rattle.claims.specs.Words.{told, openingSize, eventsIn, paperIn, handedIn}
 use Rattle.claims.specs.Table.{kindOf}
 use Rattle.claims.specs.Device.{lentTo, streamOf}
 use Rattle.claims.proofs.Checks.{sizeOf}
@@ -51,7 +51,7 @@ use Rattle.claims.proofs.Boxes.{Box, opened, asks, arrives, reply, seen
 use Rattle.claims.proofs.Steps.{whole-reply}
 use Rattle.claims.proofs.Formats.{Reached, reached}
 use Rattle.claims.proofs.Arrivals.{taken-is}
-use Rattle.claims.proofs.Totals.{history-equation, one-place}
+use Rattle.claims.proofs.Totals.{history-equation, within-limit, one-place}
 use Rattle.claims.proofs.Demand.{demand-3, verdict-means}
 use Rattle.claims.proofs.Lists as lists
 use Rattle.claims.proofs.Lists.{Since, one-more, same-seen, same-events, same-paper}
@@ -107,7 +107,7 @@ module _ (s : List ℕ) (m : Kind → List ℕ) (k : Kind) where
         let (p, q) = demand-3 s m k before w a mid .0 f x y other (e, nm, was n, rw same-since at c)
         (ap wholes (sym same-since) ∙ i ∙ ap (λ (p : Paper). length (p .incoming)) (same-paper s m k before))
         (sym (ap₂ (λ (p : Paper) (z : Reply × List ℕ). told k p v z) (same-paper s m k cs) (same-seen s m cs v)) ∙ h) in (
-          untaken p ∙ ap (λ (p : Paper). Stored (wordAt a 0) (p .run .accepted)) (sym (same-paper s m k cs)),
+          untaken p ∙ ap (λ (p : Paper). Stored (wordAt a 0) (reduced (p .run .accepted))) (sym (same-paper s m k cs)),
           ap (λ (p : Paper). take (length f) (drop (slotOffset (wordAt a 0) (p .size)) (boxAfter s m (more cs v) .memory k))) (same-paper s m k cs)
               ∙ ap (λ (b : Box). take (length f) (drop (slotOffset (wordAt a 0) (paperAfter s m k cs .size)) (b .memory k))) (one-more s m cs v) ∙ q,
         )
@@ -144,12 +144,12 @@ module _ (s : List ℕ) (m : Kind → List ℕ) (k : Kind) where
         (ap dequeues (sym same-since) ∙ d ∙ omega (arith, i, o)) q dn (ap (λ (l : ℕ). answered l (asks (boxAfter s m cs) v c .argument)) z) in
         subst (λ (n : ℕ). (r : Comes s (ours s m) k (more before (request w a)) mid n)
         × (wordAt (asks (boxAfter s m cs) v c .argument) 0 ≡ wordAt a 0)
-        × (wordAt (asks (boxAfter s m cs) v c .argument) 44 ≡ paperIn s (ours s m) k (before ++ request w a ∷ r .front) .run .accepted)
+        × (wordAt (asks (boxAfter s m cs) v c .argument) 44 ≡ reduced (paperIn s (ours s m) k (before ++ request w a ∷ r .front) .run .accepted))
         × (wordAt (asks (boxAfter s m cs) v c .argument) 8 ≡ length (r .frame))
         × (signedAt (asks (boxAfter s m cs) v c .argument) 20 ≡ arrivalTime (r .seconds) (r .microseconds) .seconds)
         × (signedAt (asks (boxAfter s m cs) v c .argument) 24 ≡ arrivalTime (r .seconds) (r .microseconds) .microseconds)
         × (take (length (r .frame)) (drop (wordAt (asks (boxAfter s m cs) v c .argument) 52) (boxAfter s m cs .memory k)) ≡ r .frame)) (sym i)
-        (comes (length (paperAfter s m k before .incoming)) r, x1, x2 ∙ ap (λ (p : Paper). p .run .accepted) (sym (same-paper s m k (before ++ request w a ∷ r .front))), x3, x4, x5, x6)
+        (comes (length (paperAfter s m k before .incoming)) r, x1, x2 ∙ ap (λ (p : Paper). reduced (p .run .accepted)) (sym (same-paper s m k (before ++ request w a ∷ r .front))), x3, x4, x5, x6)
 
   -- ---- what is written
 
@@ -252,6 +252,7 @@ module _ (s : List ℕ) (m : Kind → List ℕ) (k : Kind) where
   told-counts = record {
     adds = λ cs. rw (same-paper s m k cs) (history-equation s m k cs .0);
     counted = λ cs. rw (same-paper s m k cs) (history-equation s m k cs .1);
+    within = λ cs. rw (same-paper s m k cs) (within-limit s m k cs);
     once = λ cs i. rw (same-paper s m k cs) (one-place s m k cs i .0);
     beyond = λ cs i. rw (same-paper s m k cs) (one-place s m k cs i .1);
     flags = flags-told;

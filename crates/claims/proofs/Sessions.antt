@@ -10,6 +10,7 @@ use Rattle.ioctl_table.specs.Refusal.{errnoOf}
 use Rattle.ioctl_table.specs.Table.{requestOf}
 use Rattle.ioctl_table.proofs.Numbers.{errno-positive}
 use Rattle.stream_words.specs.declared.Time.{Time}
+use Rattle.stream_run.specs.Stream.{reduced}
 use Rattle.stream_arrival.specs.declared.Arrival.{Arrival}
 use Rattle.stream_arrival.specs.declared.Arrival.the-variants as arrivals
 use Rattle.stream_history.specs.Calls.{leaves}
@@ -91,7 +92,7 @@ none-refuses (c ∷ cs) r h = go (c .holds) (none-refuses cs r) h
 pub arrived-number : (k : Kind) (p : Paper) (services f : List ℕ) (t : Time) → arrivalNumber (arrivedOn k p services f t) ≡ 0
 arrived-number k p services f t = go (p .running) (wholeOn k (p .size) services f t) (p .incoming)
   where
-    go : (x y : Bool) (i : List ℕ) → arrivalNumber (cond (not x) arrivals.Ignored (cond y (placedOn i (p .run .accepted)) arrivals.Damaged)) ≡ 0
+    go : (x y : Bool) (i : List ℕ) → arrivalNumber (cond (not x) arrivals.Ignored (cond y (placedOn i (reduced (p .run .accepted))) arrivals.Damaged)) ≡ 0
     go false y i = refl
     go true false i = refl
     go true true [] = refl

@@ -31,7 +31,7 @@ use Rattle.stream_run.specs.declared.Reply.{Reply as StreamReply}
 use Rattle.stream_run.specs.declared.Reply.the-variants as replies
 use Rattle.stream_run.specs.Switches.{Step}
 use Rattle.stream_words.specs.Stream.{Stream}
-use Rattle.stream_run.specs.Stream.{streaming, stopped}
+use Rattle.stream_run.specs.Stream.{reduced, streaming, stopped}
 use Rattle.stream_run.specs.Switches.{answers, refuses, grantOf, requestBuffersOf as bufferRequest, startOf, stopOf}
 use Rattle.stream_queue.specs.Queueing.{enqueueOf, dequeueOf}
 use Rattle.stream_run.specs.Numbers.{replyNumber}
@@ -62,9 +62,9 @@ use Rattle.run_calls.specs.Runs.{streamonOf, streamoffOf}
 use Rattle.device_opening.specs.Opening.{longestMemory}
 use Rattle.service_rules.specs.Negotiation.{ioSize}
 use Rattle.sheet_geometry.specs.declared.Rect.{Rect}
-use Rattle.service_replies.specs.Services.{linesAt, askedServices, servicesReply, servicesCapabilityReply}
+use Rattle.service_replies.specs.Services.{askedServices, servicesReply, servicesCapabilityReply}
 use Rattle.service_replies.proofs.Reply.{services-length, told-lines, told-size, asked-length, asked-fit}
-use Rattle.service_calls.specs.Services.{ServicesAnswer, gServicesOf, sServicesOf, tryServicesOf, servicesCapabilityOf}
+use Rattle.service_calls.specs.Services.{gServicesOf, sServicesOf, tryServicesOf, servicesCapabilityOf}
 use Rattle.request_topics.specs.Request.{byVideo, byCaptions, byServices, streamCall, callAnswer, requestAnswer}
 use Rattle.stream_history.specs.Calls.{Call as StreamCall, World, sizeReply}
 use Rattle.stream_history.specs.Calls.Call.{request as asks-for, enqueue as hands-in, dequeue as takes-out, start as starts, stop as stops, resize as resizes}
@@ -110,7 +110,7 @@ pub record Safe (k : Kind) (b : Box) (p : Paper) : Type 0 where
 -- the reply that the paper foretells
 abbrev pub Foretold : Kind → Paper → Event → Reply → Type 0
 Foretold k p (put i) r = Unit {0}
-Foretold k p (whole b t) r = r ≡ taken (placedAs (p .incoming) (p .run .accepted))
+Foretold k p (whole b t) r = r ≡ taken (placedAs (p .incoming) (reduced (p .run .accepted)))
 Foretold k p damaged r = Unit {0}
 Foretold k p handed r = r ≡ answered 0 (bufferReply (typeOf k) (returnedOf (firstOf (p .outgoing)) (p .size)))
 Foretold k p begun r = Unit {0}

@@ -1,5 +1,5 @@
 -- Demand 1 of our device: the tests of its state are those of the paper.
-use mathlib.Core.Path.{_≡_, refl, sym, ap, ap₂, _∙_, subst, fun-ext}
+use mathlib.Core.Path.{_≡_, refl, sym, ap, ap₂, _∙_, fun-ext}
 use mathlib.Core.Logic.{_≢_}
 use mathlib.Core.Bool.{Bool, true, false, cond, not, _&&_, _||_, true≢false}
 use Prim.Native.Nat.{ℕ, _≤_}
@@ -27,14 +27,12 @@ use Rattle.stream_run.specs.Switches.{Step, grantOf, refuses, answers, requestB
 use Rattle.stream_run.specs.declared.Reply.the-variants as replies
 use Rattle.stream_run.proofs.Grants.{grant-few}
 use Rattle.stream_arrival.specs.declared.Arrival.{Arrival}
-use Rattle.stream_arrival.specs.Arrivals.{writtenBy}
 use Rattle.buffer_replies.specs.Replies.{buffersReply}
 use Rattle.buffer_replies.proofs.Lengths.{buffers-length, buffers-count}
 use Rattle.device_state.specs.State.{State, closedState}
 use Rattle.device_state.specs.Answers.{Answer, refused}
 use Rattle.buffer_calls.specs.Buffers.{streamAnswer, stepped, requestReply, reqbufsOf}
 use Rattle.request_topics.specs.Request.{byVideo, byCaptions, streamCall, callAnswer}
-use Rattle.device_opening.specs.Opening.{openedOf}
 use Rattle.stream_words.specs.Stream.{Stream}
 use Rattle.buffer_calls.specs.Buffers.{StreamAnswer}
 use Rattle.device_film.specs.Film.{takenOf, takenMemory, frameSize}
@@ -43,14 +41,14 @@ use Rattle.stream_history.proofs.Tied.{entry}
 use Rattle.claims.specs.Calls.{Kind, typeOf, Call, arrivalTime}
 use Rattle.claims.specs.Calls.Call.{request, arrival}
 use Rattle.claims.specs.Machine.{NoTrace}
-use Rattle.claims.specs.Words.{paperIn, papersIn}
+use Rattle.claims.specs.Words.{papersIn}
 use Rattle.claims.specs.Device.{lentTo, keptOn, streamOf}
 use Rattle.claims.specs.Desk.{deskIn}
 use Rattle.claims.specs.Table.{firstNumber, kindOf, paperAt, queuedOn, tests, requestTests, arrivalTests, refusedBy, arrivedOn, arrivalNumber}
 use Rattle.claims.specs.Demands.{Demand1}
 use Rattle.claims.proofs.Boxes.{Box, asks, paperAfter, boxAfter, ours}
 use Rattle.claims.proofs.Checks.{sizeOf, checks, requestChecks, arrivalChecks, arrivedBy}
-use Rattle.claims.proofs.Steps.{byKind, Safe, whole-reply, kind-argument, one-not-six}
+use Rattle.claims.proofs.Steps.{byKind, Safe, whole-reply, one-not-six}
 use Rattle.claims.proofs.Arrivals.{taken-is, written-refused, opening-number}
 use Rattle.claims.proofs.Honest.{honest-request}
 use Rattle.claims.proofs.Formats.{Reached, reached}
@@ -181,7 +179,7 @@ reqbufs-answers x kind size a l = go (not (eqb (wordAt a 8) 1)) (streaming x && 
 -- ---- what an arrival is answered
 
 answers-same : (k : Kind) (b : Box) (p : Paper) → Safe k b p → (f : List ℕ) (t : Time) → arrivedBy k (b .state) f t ≡ arrivedOn k p (b .state .services) f t
-answers-same k b p safe f t = rw (safe .kept .tied .size, safe .kept .tied .running, safe .kept .tied .run, safe .kept .tied .holds .ins)
+answers-same k b p safe f t = rw (safe .kept .tied .number, safe .kept .tied .size, safe .kept .tied .running, safe .kept .tied .run, safe .kept .tied .holds .ins)
 
 -- ---- from an opening
 

@@ -7,6 +7,7 @@ use lib.ListN.{length}
 use Rattle.wire_read.specs.Lists.{any}
 use Rattle.stream_words.specs.Moves.{emptied, isIncoming, isOutgoing, standingOf}
 use Rattle.stream_run.specs.Stream.{freshStream}
+use Rattle.stream_arrival.specs.Arrivals.{runLimit}
 use Rattle.stream_status.specs.Buffer.{flagsFor}
 use Rattle.device_state.specs.State.{State}
 use Rattle.device_state.specs.State.{closedState}
@@ -49,6 +50,14 @@ module _ (s : List ℕ) (m : Kind → List ℕ) (k : Kind) (cs : List Call) wher
       go (Begun.shut x) =
           let (d, p) = closed-at s m k x cs in
           (rw p refl, ap (λ (z : State). streamOf k z .run) d ∙ closed-run k ∙ sym (ap (λ (q : Paper). q .run) p))
+
+  -- no run has more arrivals than its limit
+  pub within-limit : paperAfter s m k cs .run .accepted ≤ runLimit
+  within-limit = go (begins s m)
+    where
+      go : Begun s m → paperAfter s m k cs .run .accepted ≤ runLimit
+      go (Begun.safe x) = safe-after k cs (opened s m) (blank (openingSize s k)) (x k) .kept .sound .limit
+      go (Begun.shut x) = rw (closed-at s m k x cs .1) (omega arith)
 
   -- every buffer is in at most one of the two queues, no other index is in any, and the flags say in which
   pub one-place : (i : ℕ)

@@ -16,6 +16,7 @@ use Rattle.control_place_rules.specs.Find.{placeOf, queriedPlace}
 use Rattle.stream_words.specs.declared.Filled.{Filled}
 use Rattle.stream_words.specs.Stream.{Queues}
 use Rattle.stream_words.specs.Moves.{noFrame, standingOf}
+use Rattle.stream_run.specs.Stream.{reduced}
 use Rattle.stream_run.specs.Switches.{grantOf}
 use Rattle.stream_status.specs.declared.Status.{Status}
 use Rattle.stream_status.specs.Buffer.{flagsFor, frameFor, describedOf, returnedOf}
@@ -31,9 +32,9 @@ use Rattle.claims.specs.Calls.{Kind}
 use Rattle.claims.specs.Table.{named, kindOf, paperAt}
 use Rattle.claims.specs.Desk.{Desk, valueOn}
 
--- a filled buffer of the paper: its index, and the number, length and time of the arrival that it holds
+-- a filled buffer of the paper: its index, and the number, length and time of the arrival that it holds; the number is its place in the run, reduced
 abbrev pub filledOn : Pair → Filled
-filledOn x = record { index = x .index; number = x .frame .number; used = length (x .frame .bytes); time = x .frame .time }
+filledOn x = record { index = x .index; number = reduced (x .frame .place); used = length (x .frame .bytes); time = x .frame .time }
 
 -- the queues of the paper
 abbrev pub queuesOn : Paper → Queues

@@ -21,7 +21,8 @@ use Rattle.service_replies.specs.Services.{linesAt}
 use Rattle.stream_slots.specs.Slot.{slotOffset}
 use Rattle.stream_run.specs.Switches.{grantOf}
 use Rattle.stream_arrival.specs.declared.Arrival.the-variants.{Stored}
-use Rattle.stream_arrival.specs.Arrivals.{writtenBy}
+use Rattle.stream_run.specs.Stream.{reduced}
+use Rattle.stream_arrival.specs.Arrivals.{runLimit, writtenBy}
 use Rattle.stream_verdict.specs.declared.Verdict.the-variants.{Running, Blank, Gaps, Complete}
 use Rattle.stream_history.specs.Paper.{Event, wholes, dequeues, Calm}
 use Rattle.stream_history.specs.Paper.Event.{whole}
@@ -122,12 +123,12 @@ module _ (s : List ℕ) (S : Session) (k : Kind) where
     abbrev pub Accepted : Type 0
     Accepted = (requestOf w .call ≡ Qbuf) × (wordAt a 4 ≡ typeOf k) × (S .request before w a .number ≡ 0) × Calm since
 
-    -- the (i+1)th whole accepted arrival from there on is stored in the buffer: its answer says so, with the index and its number, and
-    -- its bytes then stand at the start of the slot
+    -- the (i+1)th whole accepted arrival from there on is stored in the buffer: its answer says so, with the index and its number, which is
+    -- the count of those accepted before it in the run, reduced, and its bytes then stand at the start of the slot
     abbrev pub StoredInIt : Type 0
     StoredInIt = (f : List ℕ) (x y : ℕ) (other : List ℕ) → Accepted → wholes since ≡ i
         → told k (paperIn s S k upTo) (arrival (typeOf k) f x y other) (seenIn s S upTo (arrival (typeOf k) f x y other)) ≡ whole f (arrivalTime x y)
-        → (S .arrival upTo (typeOf k) f x y other ≡ Stored (wordAt a 0) (paperIn s S k upTo .run .accepted))
+        → (S .arrival upTo (typeOf k) f x y other ≡ Stored (wordAt a 0) (reduced (paperIn s S k upTo .run .accepted)))
         × (take (length f) (drop (slotOffset (wordAt a 0) (paperIn s S k upTo .size)) (S .memory k (more upTo (arrival (typeOf k) f x y other)))) ≡ f)
 
   -- The whole accepted arrival among calls before which n whole ones came, all after those of h.
@@ -151,7 +152,7 @@ module _ (s : List ℕ) (S : Session) (k : Kind) where
         → requestOf v .call ≡ Dqbuf → wordAt c 4 ≡ typeOf k → S .request (upTo before w a mid) v c .number ≡ 0
         → (r : Comes (more before (request w a)) mid (i before w a mid))
         × (wordAt (S .request (upTo before w a mid) v c .argument) 0 ≡ wordAt a 0)
-        × (wordAt (S .request (upTo before w a mid) v c .argument) 44 ≡ paperIn s S k (upTo before w a (r .front)) .run .accepted)
+        × (wordAt (S .request (upTo before w a mid) v c .argument) 44 ≡ reduced (paperIn s S k (upTo before w a (r .front)) .run .accepted))
         × (wordAt (S .request (upTo before w a mid) v c .argument) 8 ≡ length (r .frame))
         × (signedAt (S .request (upTo before w a mid) v c .argument) 20 ≡ arrivalTime (r .seconds) (r .microseconds) .seconds)
         × (signedAt (S .request (upTo before w a mid) v c .argument) 24 ≡ arrivalTime (r .seconds) (r .microseconds) .microseconds)
@@ -182,6 +183,8 @@ pub record Counts (s : List ℕ) (S : Session) (k : Kind) : Type 0 where
       ≡ paperIn s S k cs .run .handed + length (paperIn s S k cs .outgoing) + paperIn s S k cs .run .damaged + paperIn s S k cs .run .dropped + paperIn s S k cs .run .discarded
   -- and the counts that are told are those
   pub counted : (cs : List Call) → S .counts k cs ≡ paperIn s S k cs .run
+  -- all of them are within the limit of a run, so that none is told modulo anything
+  pub within : (cs : List Call) → paperIn s S k cs .run .accepted ≤ runLimit
   -- every buffer is in at most one of the two queues
   pub once : (cs : List Call) (j : ℕ) → timesIn (paperIn s S k cs) j + timesOut (paperIn s S k cs) j ≤ 1
   -- no other index is in any

@@ -20,6 +20,7 @@ use Rattle.sheet_records.specs.Records.{controlFields}
 use Rattle.sheet_records.specs.declared.Control.{Control}
 use Rattle.control_place_rules.specs.Find.{present, placeOf, queriedPlace}
 use Rattle.wire_read.specs.Lists.{any}
+use Rattle.stream_run.specs.Stream.{reduced}
 use Rattle.stream_arrival.specs.Arrivals.{runLimit}
 use Rattle.picture_rules.specs.Picture.{wholePicture}
 use Rattle.caption_rules.specs.Caption.{wholeCaption}
@@ -130,7 +131,7 @@ abbrev pub refusedBy : List Check → Arrival → Arrival
 refusedBy [] r = r
 refusedBy (c ∷ cs) r = cond (c .holds) (Refused (c .why)) (refusedBy cs r)
 
--- the first incoming buffer gets the arrival; where there is none it is dropped
+-- the first incoming buffer gets the arrival, under its number; where there is none it is dropped
 abbrev pub placedOn : List ℕ → ℕ → Arrival
 placedOn [] n = Dropped
 placedOn (k ∷ i) n = Stored k n
@@ -140,9 +141,10 @@ abbrev pub wholeOn : Kind → ℕ → List ℕ → List ℕ → Time → Bool
 wholeOn Kind.pictures size services f t = wholePicture (length f) size t
 wholeOn Kind.captions size services f t = wholeCaption services f t
 
--- an arrival that is not refused: ignored outside a run; damaged unless it is whole; then it is placed, with its number
+-- an arrival that is not refused: ignored outside a run; damaged unless it is whole; then it is placed, and its number is the count of those
+-- accepted before it in the run, reduced
 abbrev pub arrivedOn : Kind → Paper → List ℕ → List ℕ → Time → Arrival
-arrivedOn k p services f t = cond (not (p .running)) Ignored (cond (wholeOn k (p .size) services f t) (placedOn (p .incoming) (p .run .accepted)) Damaged)
+arrivedOn k p services f t = cond (not (p .running)) Ignored (cond (wholeOn k (p .size) services f t) (placedOn (p .incoming) (reduced (p .run .accepted))) Damaged)
 
 -- the number that an arrival gives back
 abbrev pub arrivalNumber : Arrival → ℕ

@@ -110,6 +110,6 @@ paperIn s S k cs = noted (blank (openingSize s k)) (eventsIn s S k [] (blank (op
 abbrev pub papersIn : List ℕ → Session → List Call → Kind → Paper
 papersIn s S cs k = paperIn s S k cs
 
--- the numbers of the arrivals handed over in the last run
+-- the places in the run of the arrivals handed over in the last one: full counts, not numbers
 abbrev pub handedIn : List ℕ → Session → Kind → List Call → List ℕ
 handedIn s S k cs = handedOver (blank (openingSize s k)) [] (eventsIn s S k [] (blank (openingSize s k)) cs)

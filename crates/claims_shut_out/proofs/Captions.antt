@@ -2,8 +2,7 @@
 use mathlib.Core.Path.{_≡_, refl, ap, _∙_}
 use mathlib.Core.Bool.{true}
 use Prim.Native.Nat.{ℕ}
-use mathlib.Core.List.{List, [], _∷_, _++_}
-use lib.ListN.{replicate}
+use mathlib.Core.List.{List, [], _∷_}
 use Rattle.wire_read.specs.Words.{wordAt, le32, bytesOf}
 use Rattle.wire_signed.specs.Signed.{signed}
 use Rattle.ioctl_table.specs.Table.{requestOf, callOf, knownWords}
@@ -20,45 +19,15 @@ use Rattle.service_replies.proofs.Reply.{told-lines, told-size, asked-length, a
 use Rattle.caption_rules.specs.Caption.{negotiatedAt, seenBefore, goodRecords, wholeCaption}
 use Rattle.stream_history.specs.Paper.{Paper, blank, step}
 use Rattle.stream_history.specs.Paper.Event.{put, begun, ended, sized}
-use Rattle.claims.specs.Calls.{Kind, Call, arrivalTime}
+use Rattle.claims.specs.Calls.{Kind, arrivalTime}
 use Rattle.claims.specs.Calls.Call.{request}
 use Rattle.claims.specs.Machine.{Session}
 use Rattle.claims.specs.Desk.{deskIn}
 use Rattle.claims.specs.Demands.{Demand1, Answers}
 use Rattle.bench_sheet.specs.Bench.{benchSheet}
-use Rattle.claims_shut_out.proofs.Played.{reqbufs, dark, dark-long, On, asked-both, arrives, then, asks-ten, four, at-four}
+use Rattle.claims_shut_out.specs.Calls.{reqbufs, dark, services, captionBuffers, captionBuffer, captionType, sets, asks, hands, begins, line21}
+use Rattle.claims_shut_out.proofs.Played.{dark-long, On, asked-both, arrives, then, asks-ten, four, at-four}
 use Rattle.claims_shut_out.proofs.Streams.{no-captions}
-
--- ---- the calls, each of type 6
-
--- Caption 525 wherever it is offered
-abbrev pub services : List ℕ
-services = bytesOf (6 ∷ 0x1000 ∷ []) ++ replicate 196 0
-
-abbrev pub captionBuffers : List ℕ
-captionBuffers = bytesOf (10 ∷ 6 ∷ 1 ∷ 0 ∷ 0 ∷ [])
-
-abbrev pub captionBuffer : ℕ → List ℕ
-captionBuffer k = bytesOf (k ∷ 6 ∷ 0 ∷ 0 ∷ 0 ∷ 0 ∷ 0 ∷ 0 ∷ 0 ∷ 0 ∷ 0 ∷ 0 ∷ 1 ∷ 0 ∷ 0 ∷ 0 ∷ 0 ∷ [])
-
-abbrev pub captionType : List ℕ
-captionType = bytesOf (6 ∷ [])
-
-abbrev pub sets : Call
-sets = request 0xC0CC5605 services
-
-abbrev pub asks : Call
-asks = request 0xC0145608 captionBuffers
-
-abbrev pub hands : Call
-hands = request 0xC044560F (captionBuffer 0)
-
-abbrev pub begins : Call
-begins = request 0x40045612 captionType
-
--- a record of Caption 525, on line 21 of the first field
-abbrev pub line21 : List ℕ
-line21 = bytesOf (0x1000 ∷ 0 ∷ 21 ∷ 0 ∷ []) ++ replicate 48 0
 
 -- ---- the services
 
@@ -72,7 +41,7 @@ answered-size =
     told-size 6 (askedServices services) (asked-length services) (asked-fit services)
     ∙ ap ioSize (told-lines 6 (askedServices services) (asked-length services) (asked-fit services)) ∙ two-lines
 
-is-whole : wholeCaption (askedServices services) line21 (arrivalTime 0 0) ≡ true
+pub is-whole : wholeCaption (askedServices services) line21 (arrivalTime 0 0) ≡ true
 unfolding wholeCaption goodRecords seenBefore negotiatedAt askedServices negotiatedLines fittingAt common offeredAt setOf has allBelow anyBelow tab any halfAt wordAt le32 bytesOf signed
 is-whole = refl
 
@@ -144,12 +113,12 @@ module _ (S : Session) (d : Demand1 benchSheet dark S) (k : Answers benchSheet d
   unfolding C1 C2 C3 requestOf callOf knownWords wordAt le32 bytesOf
   begins-it = asked-both S d (reqbufs ∷ sets ∷ asks ∷ hands ∷ []) (four S d) C3 0x40045612 captionType pictures-3 at-3 refl
 
-  at-4 : On S d Kind.captions (reqbufs ∷ sets ∷ asks ∷ hands ∷ begins ∷ []) C4
+  pub at-4 : On S d Kind.captions (reqbufs ∷ sets ∷ asks ∷ hands ∷ begins ∷ []) C4
   unfolding C1 C2 C3 C4 requestOf callOf knownWords wordAt le32 bytesOf
   at-4 = then S d Kind.captions (reqbufs ∷ sets ∷ asks ∷ hands ∷ []) C3 0x40045612 captionType at-3 begins-it
 
   -- the services in force then
-  in-force : deskIn benchSheet S (reqbufs ∷ sets ∷ asks ∷ hands ∷ begins ∷ []) .services ≡ askedServices services
+  pub in-force : deskIn benchSheet S (reqbufs ∷ sets ∷ asks ∷ hands ∷ begins ∷ []) .services ≡ askedServices services
   unfolding requestOf callOf knownWords wordAt le32 bytesOf
   in-force =
       rw (asks-ten S d, sets-them, asks-them, hands-it, begins-it)

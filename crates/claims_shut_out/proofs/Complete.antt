@@ -13,12 +13,10 @@ use Rattle.claims.specs.Machine.{Session, more}
 use Rattle.claims.specs.Words.{openingSize, eventsIn, handedIn, paperIn}
 use Rattle.claims.specs.Demands.{Demand1}
 use Rattle.bench_sheet.specs.Bench.{benchSheet}
+use Rattle.claims_shut_out.specs.Calls.{tenBuffers, buffer, video, reqbufs, qbuf, streamon, dqbuf, streamoff, dark, white, comes}
 use Rattle.claims_shut_out.specs.Faults.{NeverComplete, Out}
-use Rattle.claims_shut_out.proofs.Played.{tenBuffers, buffer, video, reqbufs, qbuf, streamon, dqbuf, dark, On, at-first, asked, then, tells, goes, asks-ten, gets-four}
-use Rattle.claims_shut_out.proofs.Film.{white, comes, P1, P2, P3, P4, at-4, tells-0, tells-1, tells-2, tells-3}
-
-abbrev streamoff : Call
-streamoff = request 0x40045613 video
+use Rattle.claims_shut_out.proofs.Played.{On, at-first, asked, then, tells, goes, asks-ten, gets-four}
+use Rattle.claims_shut_out.proofs.Film.{P1, P2, P3, P4, at-4, tells-0, tells-1, tells-2, tells-3}
 
 abbrev film : List Call
 film = reqbufs ∷ qbuf 0 ∷ qbuf 1 ∷ streamon ∷ comes ∷ dqbuf ∷ streamoff ∷ []

@@ -1,10 +1,10 @@
 -- The faults of the crop, and devices that have them.
-use mathlib.Core.Path.{_≡_, refl, sym, ap, ap₂, _∙_}
+use mathlib.Core.Path.{_≡_, refl, sym, ap, _∙_}
 use mathlib.Core.Bool.{true, false, false≢true}
 use Prim.Native.Nat.{ℕ, _%_}
 use native.Mathlib.Omega.{arith}
 use mathlib.Core.List.{List, [], _∷_}
-use lib.IntN.{ℤ, negsuc, natAbs}
+use lib.IntN.{negsuc, natAbs}
 use lib.Signed.{leZ}
 use Rattle.wire_read.specs.Lists.{any}
 use Rattle.wire_read.specs.Words.{wordAt, le32, bytesOf}
@@ -21,17 +21,18 @@ use Rattle.crop_replies.specs.Replies.{cropReply}
 use Rattle.crop_calls.specs.Crops.{askedCrop}
 use Rattle.claims.specs.Calls.{Kind, Call}
 use Rattle.claims.specs.Calls.Call.{request}
-use Rattle.claims.specs.Machine.{Session, Machine, more}
-use Rattle.claims_together.specs.Crops.{CropTold, cropIn, boundsIn, SetsNoCrop}
+use Rattle.claims.specs.Machine.{Session, more}
+use Rattle.claims_together.specs.Crops.{CropTold, boundsIn, SetsNoCrop}
 use Rattle.claims_together.proofs.Switched.{callIn}
 use Rattle.claims_together.proofs.Waiting.{by-call}
 use Rattle.claims_together.proofs.Crops.{bounds-are}
 use Rattle.claims_together.proofs.Meets.{device-meets}
 use Rattle.bench_sheet.specs.Bench.{oddSheet}
 use Rattle.bench_sheet.proofs.Good.{odd-good}
+use Rattle.claims_shut_out.specs.Calls.{dark}
 use Rattle.claims_shut_out.specs.Faults.{FieldsMixed, TopLowered, CropMoved, Out}
-use Rattle.claims_shut_out.specs.Wrong.{ours, place, cropAfter, cropping, asItIs, inside, apartFirst, evenItself, evenUp, openingLeftOut, notRounded, roundedFirst, topItself, roundedUp, setsFormat, forgotten, cropForgotten}
-use Rattle.claims_shut_out.proofs.Played.{dark, dark-long}
+use Rattle.claims_shut_out.specs.Wrong.{ours, place, cropAfter, cropping, asItIs, inside, apartFirst, evenItself, evenUp, openingLeftOut, notRounded, roundedFirst, topItself, roundedUp, cropForgotten}
+use Rattle.claims_shut_out.proofs.Played.{dark-long}
 
 -- ---- no machine has them
 

@@ -13,6 +13,7 @@ use Rattle.ioctl_table.specs.Table.{requestOf, callOf, knownWords}
 use Rattle.wire_read.specs.Lists.{any}
 use Rattle.stream_words.specs.Stream.{Run}
 use Rattle.stream_slots.specs.Slot.{slotSize, slotOffset}
+use Rattle.stream_run.specs.Stream.{reduced}
 use Rattle.stream_arrival.specs.declared.Arrival.{Arrival}
 use Rattle.stream_arrival.specs.declared.Arrival.the-variants.{Stored}
 use Rattle.stream_arrival.specs.Arrivals.{writtenBy}
@@ -27,15 +28,9 @@ use Rattle.claims.specs.Desk.{deskIn}
 use Rattle.claims.specs.Table.{arrivalNumber}
 use Rattle.claims.specs.Demands.{Demand1, Demand3, Counts, since}
 use Rattle.bench_sheet.specs.Bench.{benchSheet}
+use Rattle.claims_shut_out.specs.Calls.{tenBuffers, buffer, video, reqbufs, qbuf, streamon, dark, white, comes}
 use Rattle.claims_shut_out.specs.Faults.{IdleArrival, LaterPretend, StoredNumbered, YoungestFirst, Out}
-use Rattle.claims_shut_out.proofs.Played.{tenBuffers, buffer, video, reqbufs, qbuf, streamon, plain, plain-long, plain-first, plain-zero, dark, dark-long, On, asked, then, arrives, came, then-came, tells, tells-came, goes, four, at-four}
-
--- a white frame
-abbrev pub white : List ℕ
-white = plain 614400 1
-
-abbrev pub comes : Call
-comes = arrival 1 white 0 0 (dark Kind.pictures)
+use Rattle.claims_shut_out.proofs.Played.{plain-long, plain-first, plain-zero, dark-long, On, asked, then, arrives, came, then-came, tells, tells-came, goes, four, at-four}
 
 -- a frame of no bytes
 abbrev torn : Call
@@ -56,7 +51,7 @@ module _ (S : Session) (d : Demand1 benchSheet dark S) where
   unfolding requestOf callOf knownWords wordAt le32 bytesOf any
   hand-0 = asked S d (reqbufs ∷ []) (four S d) 0xC044560F (buffer 0) (at-four S d) refl
 
-  at-1 : On S d Kind.pictures (reqbufs ∷ qbuf 0 ∷ []) P1
+  pub at-1 : On S d Kind.pictures (reqbufs ∷ qbuf 0 ∷ []) P1
   unfolding P1 requestOf callOf knownWords wordAt le32 bytesOf
   at-1 = then S d Kind.pictures (reqbufs ∷ []) (four S d) 0xC044560F (buffer 0) (at-four S d) hand-0
 
@@ -178,7 +173,7 @@ module _ (S : Session) (d : Demand1 benchSheet dark S) where
         (refl, refl, hand-0, rw after-0 tt)
         (ap wholes after-0 ∙ sym (ap (λ (p : Paper). length (p .incoming)) (at-four S d)))
         whole-1 in
-        (x ∙ ap (λ (p : Paper). Stored 0 (p .run .accepted)) at-3, y)
+        (x ∙ ap (λ (p : Paper). Stored 0 (reduced (p .run .accepted))) at-3, y)
 
     stored-1 : take (length white) (drop (slotOffset 1 614400) (S .memory Kind.pictures (reqbufs ∷ qbuf 0 ∷ qbuf 1 ∷ streamon ∷ comes ∷ comes ∷ []))) ≡ white
     unfolding P1 P2 P3 P4 requestOf callOf knownWords wordAt le32 bytesOf

@@ -33,14 +33,15 @@ use Rattle.claims_together.specs.Waiting.{Starts, Ends}
 use Rattle.claims_together.proofs.Meets.{device-meets}
 use Rattle.claims_together.proofs.InForce.{now-in-force}
 use Rattle.bench_sheet.specs.Bench.{benchSheet}
+use Rattle.claims_shut_out.specs.Calls.{tenBuffers, buffer, reqbufs, streamon, dqbuf, dark, services, captionBuffer, sets, asks, hands, begins, line21}
 use Rattle.claims_shut_out.specs.Faults.{leftZero, AlwaysComplete, NeverComplete, LaterPretend, OddRefused, FailedCounted, StoredNumbered, YoungestFirst, SoonWhenStopped, NeverSoon, StreamsMixed, HeldUp, TwiceTaken, AllTypes, Out}
 use Rattle.claims_shut_out.specs.Wrong.{ours, raised, leftRaised, telling, place, only, refused, noneIn, echoed, oddOut, answering, storedBy, filledBy, youngest, praised, blamed, failedIn, withFailed, renumbered, flooded, ifStored, filledOnce, neverOpens, allRefusing, grantsNone, grantsFewer, alwaysRunning, alwaysBlank, alwaysGaps, alwaysComplete, stoppedComplete, neverComplete, idle, laterPretend, uncounted, tryEchoes, oddTried, oddSet, failedCounted, storedNumbered, youngestFirst, calledOff, soonWhenStopped, neverSoon, unknownInvalid, tieUp, greatestMissed, fromAbove, openingLeftOut, notRounded, roundedFirst, topItself, roundedUp, cropForgotten, alsoWaiting, streamsMixed, busy, heldUp, twiceTaken, allTypes, oneVerdict, Wrong, WrongDevices}
-use Rattle.claims_shut_out.proofs.Played.{tenBuffers, buffer, reqbufs, streamon, dqbuf, dark, dark-long, at-first, came, asked, asks-ten, four, at-four}
+use Rattle.claims_shut_out.proofs.Played.{dark-long, at-first, came, asked, asks-ten, four, at-four}
 use Rattle.claims_shut_out.proofs.Shut.{never-opens, all-refusing, grants-none, grants-fewer, constant-verdict, always-complete, invented-totals, try-echoes, odd-tried, odd-set, left-raised, failed-counted}
 use Rattle.claims_shut_out.proofs.Film.{idle-arrival, later-pretend, stored-numbered, youngest-first}
 use Rattle.claims_shut_out.proofs.Complete.{never-complete}
 use Rattle.claims_shut_out.proofs.Streams.{no-captions, streams-mixed, held-up, twice-taken, all-types, one-verdict}
-use Rattle.claims_shut_out.proofs.Captions.{services, captionBuffer, sets, asks, hands, begins, line21, C1, C2, C3, sets-them, pictures-2, at-2, at-3, stores}
+use Rattle.claims_shut_out.proofs.Captions.{C1, C2, C3, sets-them, pictures-2, at-2, at-3, stores}
 use Rattle.claims_shut_out.proofs.Sizes.{tie-up, greatest-missed, from-above, goes-up, misses, stays-above}
 use Rattle.claims_shut_out.proofs.Crops.{fields-mixed, top-lowered, crop-moved, leaves-opening-out, does-not-round, rounds-first, rounds-itself, rounds-up, forgets}
 use Rattle.claims_shut_out.proofs.Stopped.{soon-when-stopped, waits, never-soon, unknown-invalid}

@@ -2,7 +2,7 @@
 use mathlib.Core.Path.{_≡_, refl, ap, ap₂, _∙_, fun-ext}
 use mathlib.Core.Bool.{cond}
 use Prim.Native.Nat.{ℕ, zero, suc, _<_}
-use mathlib.Core.List.{List, [], _∷_, _++_}
+use mathlib.Core.List.{List, [], _∷_}
 use lib.ListN.{length, getD, replicate, length-replicate, getD-replicate}
 use Rattle.wire_read.specs.Words.{wordAt, le32, bytesOf}
 use Rattle.ioctl_table.specs.Table.{requestOf, callOf, knownWords}
@@ -26,41 +26,9 @@ use Rattle.claims.specs.Demands.{Demand1}
 use Rattle.claims.proofs.Sessions.{paper-more, events-cons, told-request, told-arrival, none-refuses, arrived-number}
 use Rattle.bench_sheet.specs.Bench.{benchSheet}
 use Rattle.bench_sheet.proofs.Good.{bench-good}
-
--- ---- the calls
-
--- ten buffers
-abbrev pub tenBuffers : List ℕ
-tenBuffers = bytesOf (10 ∷ 1 ∷ 1 ∷ 0 ∷ 0 ∷ [])
-
--- a buffer: its index, type 1, memory 1 at byte 48
-abbrev pub buffer : ℕ → List ℕ
-buffer k = bytesOf (k ∷ 1 ∷ 0 ∷ 0 ∷ 0 ∷ 0 ∷ 0 ∷ 0 ∷ 0 ∷ 0 ∷ 0 ∷ 0 ∷ 1 ∷ 0 ∷ 0 ∷ 0 ∷ 0 ∷ [])
-
-abbrev pub video : List ℕ
-video = bytesOf (1 ∷ [])
-
-abbrev pub reqbufs : Call
-reqbufs = request 0xC0145608 tenBuffers
-
-abbrev pub qbuf : ℕ → Call
-qbuf k = request 0xC044560F (buffer k)
-
-abbrev pub streamon : Call
-streamon = request 0x40045612 video
-
-abbrev pub dqbuf : Call
-dqbuf = request 0xC0445611 (buffer 0)
-
--- a format of this width, and a height of 224
-abbrev pub wide : ℕ → List ℕ
-wide n = bytesOf (1 ∷ n ∷ 224 ∷ 0 ∷ []) ++ replicate 188 0
+use Rattle.claims_shut_out.specs.Calls.{tenBuffers, reqbufs, plain, room, dark}
 
 -- ---- the memories
-
--- n bytes that are all v; its clause stays shut, so that nothing counts through them
-pub plain : ℕ → ℕ → List ℕ
-plain n v = replicate n v
 
 pub plain-long : (n v : ℕ) → length (plain n v) ≡ n
 unfolding plain
@@ -78,14 +46,6 @@ all-zero (suc n) (suc j) = all-zero n j
 pub plain-zero : (n j : ℕ) → getD (plain n 0) j 0 ≡ 0
 unfolding plain
 plain-zero = all-zero
-
--- memories of zeros, each with room for four slots
-abbrev pub room : Kind → ℕ
-room Kind.pictures = 2457600
-room Kind.captions = 16384
-
-abbrev pub dark : Kind → List ℕ
-dark k = plain (room k) 0
 
 pub dark-long : (k : Kind) → length (dark k) ≡ room k
 dark-long k = plain-long (room k) 0

@@ -29,8 +29,9 @@ use Rattle.claims.specs.Desk.{Desk, openingDesk, chosen, deskIn}
 use Rattle.claims.specs.Demands.{Demand1, Answers, Counts}
 use Rattle.claims_together.proofs.Sizes.{is-try}
 use Rattle.bench_sheet.specs.Bench.{benchSheet}
+use Rattle.claims_shut_out.specs.Calls.{tenBuffers, buffer, video, reqbufs, streamon, wide, dark}
 use Rattle.claims_shut_out.specs.Faults.{NeverOpens, AllRefusing, GrantsNone, GrantsFewer, ConstantVerdict, AlwaysComplete, InventedTotals, TryEchoes, OddRefused, LeftRaised, FailedCounted, Out}
-use Rattle.claims_shut_out.proofs.Played.{tenBuffers, buffer, video, wide, reqbufs, streamon, dark, opens, at-first, asked, then, asks-ten, gets-four, four, at-four}
+use Rattle.claims_shut_out.proofs.Played.{opens, at-first, asked, then, asks-ten, gets-four, four, at-four}
 
 -- ---- refusing
 

@@ -1,9 +1,9 @@
 -- The faults of sizes, and devices that have them.
 use mathlib.Core.Path.{_≡_, refl, ap, _∙_}
 use mathlib.Core.Logic.{inl}
-use Prim.Native.Nat.{ℕ, _+_, _≤_, _<_}
+use Prim.Native.Nat.{ℕ, _<_}
 use native.Mathlib.Omega.{arith}
-use mathlib.Core.List.{List, []}
+use mathlib.Core.List.{[]}
 use Rattle.wire_read.specs.Lists.{tab, any, first}
 use Rattle.wire_read.specs.Words.{wordAt, le32, bytesOf}
 use Rattle.ioctl_table.specs.Table.{requestOf, callOf, knownWords}
@@ -11,14 +11,13 @@ use Rattle.sheet_contents.specs.Contents.{geometryAt}
 use Rattle.sheet_geometry.specs.Geometry.{rangeAt, widthsOf}
 use Rattle.sheet_rules.proofs.Facts.{Sizes}
 use Rattle.sheet_rules.proofs.Good.{geometry}
-use Rattle.grid_rules.specs.Grid.{apart, firstUnbeaten, sizeAt, sizesOf, walkSizes}
-use Rattle.claims.specs.Machine.{Session}
+use Rattle.grid_rules.specs.Grid.{apart, firstUnbeaten, sizesOf, walkSizes}
 use Rattle.claims_together.proofs.Sizes.{is-try, good, nearest-width}
 use Rattle.claims_together.proofs.Meets.{device-meets}
 use Rattle.bench_sheet.specs.Bench.{benchSheet}
+use Rattle.claims_shut_out.specs.Calls.{wide, dark}
 use Rattle.claims_shut_out.specs.Faults.{TieUp, GreatestMissed, FromAbove, Out}
 use Rattle.claims_shut_out.specs.Wrong.{ours, tieUp, greatestMissed, fromAbove}
-use Rattle.claims_shut_out.proofs.Played.{wide, dark}
 use Rattle.claims_shut_out.proofs.Shut.{width-asked, of-pictures, tries}
 
 -- ---- no machine has them

@@ -11,8 +11,9 @@ use Rattle.claims.specs.Machine.{Session}
 use Rattle.claims.specs.Demands.{Demand1}
 use Rattle.claims_together.proofs.Waiting.{is-on, is-off}
 use Rattle.bench_sheet.specs.Bench.{benchSheet}
+use Rattle.claims_shut_out.specs.Calls.{buffer, reqbufs, streamon, dark}
 use Rattle.claims_shut_out.specs.Faults.{SoonWhenStopped, NeverSoon, UnknownInvalid, Out}
-use Rattle.claims_shut_out.proofs.Played.{buffer, reqbufs, streamon, dark, asked, at-first, four}
+use Rattle.claims_shut_out.proofs.Played.{asked, at-first, four}
 use Rattle.claims_shut_out.proofs.Shut.{runs}
 
 -- 11 says that a run is on, and the stop that none is

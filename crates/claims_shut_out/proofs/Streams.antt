@@ -12,6 +12,7 @@ use Rattle.ioctl_table.specs.Refusal.{errnoOf}
 use Rattle.ioctl_table.specs.declared.refusals.Refusal.the-variants.{Closed, UnknownWord, ArgumentLength, WrongType}
 use Rattle.ioctl_table.specs.Table.{requestOf, callOf, knownWords}
 use Rattle.ioctl_table.specs.declared.table.Call.the-variants.{Qbuf}
+use Rattle.stream_run.specs.Stream.{reduced}
 use Rattle.stream_arrival.specs.declared.Arrival.{Arrival}
 use Rattle.stream_arrival.specs.declared.Arrival.the-variants.{Refused, Ignored, Damaged, Dropped, Stored}
 use Rattle.stream_verdict.specs.declared.Verdict.the-variants.{Running}
@@ -28,8 +29,9 @@ use Rattle.claims.specs.Table.{Check, kindOf, firstNumber, requestTests, arriva
 use Rattle.claims.specs.Demands.{Demand1}
 use Rattle.claims.proofs.Sessions.{paper-more}
 use Rattle.bench_sheet.specs.Bench.{benchSheet}
+use Rattle.claims_shut_out.specs.Calls.{tenBuffers, video, reqbufs, streamon, dark}
 use Rattle.claims_shut_out.specs.Faults.{StreamsMixed, HeldUp, TwiceTaken, AllTypes, OneVerdict, Out}
-use Rattle.claims_shut_out.proofs.Played.{tenBuffers, video, reqbufs, streamon, dark, On, then, asks-ten}
+use Rattle.claims_shut_out.proofs.Played.{On, then, asks-ten}
 use Rattle.claims_shut_out.proofs.Shut.{starts, runs}
 
 -- ---- mixed
@@ -108,7 +110,7 @@ twice-taken M (s, m, cs, f, x, y, other, i, j, k, n, before, inside, same, store
     let r : isStored (refusedBy (arrivalTests (S .opening) (λ j. length (m j)) (papersIn s S cs) 6 (length other)) (arrivedOn Kind.captions p l f (arrivalTime x y))) ≡ true =
     ap isStored (sym (meets .demand-1 s m .arrivals cs 6 f x y other) ∙ stored) in
     let w : wholeCaption l f (arrivalTime x y) ≡ true =
-    was-whole (p .running) (wholeCaption l f (arrivalTime x y)) (placedOn (p .incoming) (p .run .accepted))
+    was-whole (p .running) (wholeCaption l f (arrivalTime x y)) (placedOn (p .incoming) (reduced (p .run .accepted)))
     (was-stored (arrivalTests (S .opening) (λ j. length (m j)) (papersIn s S cs) 6 (length other)) (arrivedOn Kind.captions p l f (arrivalTime x y)) r) in
     whole-means l f (arrivalTime x y) w .distinct i j before inside same
 

@@ -2,7 +2,8 @@
 //   r REQBUFS, b QUERYBUF, q QBUF, d DQBUF, s STREAMON, t STREAMOFF; the letter of an answer is the capital one of its call, N where the
 //   argument has the number of a refusal, and X where a frame is handed over that does not stand in memory as it arrived
 //   v the verdict, which answers with a digit from 5 on; h the record of the run, which answers H
-//   a line's end, and k with the memory's length, make the stream anew; a the run has accepted 4,294,967,293 arrivals: a count that no list could reach
+//   a line's end, and k with the memory's length, make the stream anew; a and e put a run to counts that no list could reach: 4,294,967,294
+//   arrivals, and 9,223,372,036,854,775,805, each accepted and handed over
 // No contract here says more than that each function is safe and ends.
 use show_arrivals::Event;
 use stream_words::Words;
@@ -43,13 +44,20 @@ fn call(s: &mut Words, memory: &[u8], c: u8, size: u32, a: &mut [u8]) -> u8 {
     std::num::wrapping_sub_u8(c, 32)
 }
 
-// What became of the arrivals of the last run: five words, accepted, handed over, damaged, dropped, discarded.
+// What became of the arrivals of the last run: five words, accepted, handed over, damaged, dropped, discarded. Of each count the lower 32 bits.
 fn record(s: &Words, a: &mut [u8]) {
     let mut k: usize = 0;
     while k < 5 {
         wire_store::put_word(a, k * 4, stream_words::low(s[stream_words::ACCEPTED + k]));
         k += 1;
     }
+}
+
+// As many were accepted and handed over, and the next number is that of the count.
+fn aged(s: &mut Words, n: u64) {
+    s[stream_words::ACCEPTED] = n;
+    s[stream_words::HANDED] = n;
+    s[stream_words::NEXT_NUMBER] = n % 4294967296;
 }
 
 // Another event, with the length that the memory has.
@@ -60,7 +68,11 @@ fn other(s: &mut Words, length: u32, c: u8, a: &mut [u8]) -> u8 {
             0
         }
         b'a' => {
-            s[stream_words::ACCEPTED] = 4294967293;
+            aged(s, 4294967294);
+            0
+        }
+        b'e' => {
+            aged(s, 9223372036854775805);
             0
         }
         b'v' => (stream_verdict::verdict_number(stream_verdict::film_verdict(s)) % 4 + 53) as u8,

@@ -19,7 +19,8 @@ pub(crate) fn told(letter: u8, a: &[u8]) {
         l with a memory of 100, arrival\n\
         z size %d\x00;\n\
         c clock %d\x00;\n\
-        a accepted 4294967293;\n\
+        a accepted and handed over 4294967294;\n\
+        e accepted and handed over 9223372036854775805;\n\
         0: refused %d\x00;\n\
         1: ignored;\n\
         2: damaged;\n\

@@ -2,7 +2,7 @@
 // an array behind a reference only such a loan tells.
 ghost use mathlib.Core.Path.{_≡_};
 ghost use Rattle.stream_words.specs.Stream.{onQueues};
-ghost use Rattle.stream_words.specs.Words.{low, streamIn};
+ghost use Rattle.stream_words.specs.Words.{streamIn};
 ghost use Rattle.stream_words.specs.Moves.{filledOldest};
 use stream_words::HOLDING;
 use stream_words::MICROSECONDS;
@@ -13,8 +13,8 @@ use stream_words::USED;
 use stream_words::Words;
 
 // The oldest that waits for a frame becomes the youngest that holds one.
-pub fn fill(s: &mut Words, number: u64, used: u32, time: Time)
-    ensures { λ _. ⌜ streamIn (now (s .exit)) ≡ onQueues (λ q. filledOldest q (low number) used time) (streamIn (now (s .entry))) ⌝ }
+pub fn fill(s: &mut Words, number: u32, used: u32, time: Time)
+    ensures { λ _. ⌜ streamIn (now (s .exit)) ≡ onQueues (λ q. filledOldest q number used time) (streamIn (now (s .entry))) ⌝ }
 {
     let d = stream_words::holding(s);
     if stream_words::lined(s) <= d {
@@ -24,7 +24,7 @@ pub fn fill(s: &mut Words, number: u64, used: u32, time: Time)
     let seconds = wire_signed::as_bits(time.seconds);
     let microseconds = wire_signed::as_bits(time.microseconds);
     let _words: &[u64] = s;
-    s[NUMBER + p] = number;
+    s[NUMBER + p] = number as u64;
     s[USED + p] = used as u64;
     s[SECONDS + p] = seconds as u64;
     s[MICROSECONDS + p] = microseconds as u64;

@@ -9,6 +9,7 @@ use Rattle.stream_words.specs.declared.Time.{Time}
 use Rattle.stream_words.specs.declared.Filled.{Filled}
 use Rattle.stream_slots.specs.Slot.{slotOffset}
 use Rattle.stream_run.specs.declared.Reply.the-variants.{Done, Returned}
+use Rattle.stream_run.specs.Stream.{reduced}
 use Rattle.stream_run.specs.Switches.{requestBuffersOf, startOf, stopOf}
 use Rattle.stream_queue.specs.Queueing.{enqueueOf, dequeueOf}
 use Rattle.stream_arrival.specs.declared.Arrival.the-variants as arrivals
@@ -30,16 +31,16 @@ use Rattle.stream_history.proofs.Order.{At, Leaves, pairOf, comes-first
 -- the first incoming buffer is k: a whole arrival is stored there
 stored-now : (w : World) (p : Paper) (k : ℕ) (r : List ℕ) (b : List ℕ) (t : Time) (fl : Bool) (lends : List ℕ) → Kept w p → p .incoming ≡ k ∷ r
     → told p (arrival b t fl lends) (answer w (arrival b t fl lends)) ≡ whole b t
-    → (answer w (arrival b t fl lends) ≡ arrived (arrivals.Stored k (p .run .accepted)))
+    → (answer w (arrival b t fl lends) ≡ arrived (arrivals.Stored k (reduced (p .run .accepted))))
     × (slotBytes (next w (arrival b t fl lends)) k (length b) ≡ b)
 stored-now w p k r b t fl lends g e h =
     let c : Call = arrival b t fl lends in
-    let a : answer w c ≡ arrived (placedAs (p .incoming) (p .run .accepted)) = subst (λ (v : Event). Answers p v (answer w c)) h (foretold-next w p c g) in
+    let a : answer w c ≡ arrived (placedAs (p .incoming) (reduced (p .run .accepted))) = subst (λ (v : Event). Answers p v (answer w c)) h (foretold-next w p c g) in
     let n : Tied (next w c) (step p (whole b t)) = subst (λ (v : Event). Tied (next w c) (step p v)) h (kept-next w p c g .tied) in
     let m : List ℕ = next w c .memory in
     let all : All (Held (p .size) m) (filled (k ∷ r) (frameOf p b t) (p .outgoing)) =
     subst (λ (i : List ℕ). All (Held (p .size) m) (filled i (frameOf p b t) (p .outgoing))) e (n .held) in (
-      a ∙ ap (λ (i : List ℕ). arrived (placedAs i (p .run .accepted))) e,
+      a ∙ ap (λ (i : List ℕ). arrived (placedAs i (reduced (p .run .accepted)))) e,
       ap (λ (z : ℕ). take (length b) (drop (slotOffset k z) m)) (n .size) ∙ all-append (Held (p .size) m) (p .outgoing) (pairOf k p b t ∷ []) all .1 .0 .1,
     )
 
@@ -59,7 +60,7 @@ returned-now w p x r f g e h =
 stores-at : (w : World) (p : Paper) (k : ℕ) (mid : List Call) (b : List ℕ) (t : Time) (fl : Bool) (lends : List ℕ) → Kept w (step p (put k))
     → Calm (events w (step p (put k)) mid) → wholes (events w (step p (put k)) mid) ≡ length (p .incoming)
     → told (noted (step p (put k)) (events w (step p (put k)) mid)) (arrival b t fl lends) (answer (after w mid) (arrival b t fl lends)) ≡ whole b t
-    → (answer (after w mid) (arrival b t fl lends) ≡ arrived (arrivals.Stored k (noted (step p (put k)) (events w (step p (put k)) mid) .run .accepted)))
+    → (answer (after w mid) (arrival b t fl lends) ≡ arrived (arrivals.Stored k (reduced (noted (step p (put k)) (events w (step p (put k)) mid) .run .accepted))))
     × (slotBytes (next (after w mid) (arrival b t fl lends)) k (length b) ≡ b)
 stores-at w p k mid b t fl lends g c n h =
     let (r, e) = comes-first p k (events w (step p (put k)) mid) c n in
@@ -128,7 +129,7 @@ arrival-of w p cs n a c = go (whole-call (after w (c .fore)) (noted p (events w 
 abbrev ComesBack : World → Paper → ℕ → List Call → Filled → ℕ → Type 0
 ComesBack w q k mid f n =
     (a : ArrivalAmong w q mid n)
-    × (f ≡ record { index = k; number = noted q (events w q (a .front)) .run .accepted; used = length (a .bytes); time = a .time })
+    × (f ≡ record { index = k; number = reduced (noted q (events w q (a .front)) .run .accepted); used = length (a .bytes); time = a .time })
     × (slotBytes (after w mid) k (length (a .bytes)) ≡ a .bytes)
 
 returns-at : (w : World) (p : Paper) (k : ℕ) (mid : List Call) (f : Filled) → Kept w (step p (put k))
@@ -150,7 +151,7 @@ returns-at w p k mid f g c n h =
         let q : Paper = step p (put k) in
         let t : Cut answer next told w q mid (l .at .front) (whole (l .at .bytes) (l .at .time)) = cut answer next told mid w q (l .at .front) (whole (l .at .bytes) (l .at .time)) (l .at .back) (l .at .is) in
         let (x, y) = returned-now (after w mid) now-paper (pairOf k (noted q (l .at .front)) (l .at .bytes) (l .at .time)) (l .behind) f now-kept (l .first) h in
-        let back : List Event → Filled = λ es. record { index = k; number = noted q es .run .accepted; used = length (l .at .bytes); time = l .at .time } in
+        let back : List Event → Filled = λ es. record { index = k; number = reduced (noted q es .run .accepted); used = length (l .at .bytes); time = l .at .time } in
         (arrival-of w q mid (length (p .incoming)) (l .at) t, x ∙ ap back (sym (t .tells-front)), y)
 
 -- the same on any paper that is as it was when k was handed in
@@ -197,5 +198,5 @@ returns-in-order size m before k mid f (h, c) n e =
     let q : Paper = paperAfter size m (before ++ enqueue k ∷ []) in
     let (a, x, y) = returns-on w (paperAfter size m before) q k mid f (paper-in size m before k h) (kept size m (before ++ enqueue k ∷ [])) c n
     (rw (world-mid size m before k mid) at e) in
-    let back : Paper → Filled = λ p. record { index = k; number = p .run .accepted; used = length (a .bytes); time = a .time } in
+    let back : Paper → Filled = λ p. record { index = k; number = reduced (p .run .accepted); used = length (a .bytes); time = a .time } in
     (a, x ∙ ap back (sym (paper-mid size m before k (a .front))), rw (world-mid size m before k mid) y)

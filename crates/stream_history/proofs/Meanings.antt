@@ -1,24 +1,38 @@
--- The counts add up, and the verdict is which when.
+-- The counts add up, the number goes with them, and the verdict is which when.
 use mathlib.Core.Path.{_≡_, refl, sym, ap, _∙_, subst}
 use mathlib.Core.Bool.{Bool, true, false, cond, true≢false}
-use Prim.Native.Nat.{ℕ, _<_}
+use Prim.Native.Nat.{ℕ, _≤_, _<_}
 use native.Mathlib.Omega.{arith}
 use borrow.Author.Tests.{eqb-true, eqb-false}
 use lib.Dec.{eqb}
 use mathlib.Core.List.{List, []}
 use Rattle.stream_words.specs.Stream.{Run}
+use Rattle.stream_arrival.specs.Arrivals.{runLimit}
 use Rattle.stream_verdict.specs.Film.{verdictAfter, verdictOf}
 use Rattle.stream_verdict.specs.declared.Verdict.{Verdict}
 use Rattle.stream_verdict.specs.declared.Verdict.the-variants.{Running, Blank, Gaps, Complete}
 use Rattle.stream_history.specs.Calls.{World, opened}
 use Rattle.stream_history.specs.Paper.{Paper, blank, events}
-use Rattle.stream_history.specs.Claims.{_⇔_, paperAfter, worldAfter, AddsUp, handedAfter, AllHandedOver, Verdicts}
+use Rattle.stream_history.specs.Claims.{_⇔_, paperAfter, worldAfter, AddsUp, Numbers, handedAfter, AllHandedOver, Verdicts}
 use Rattle.stream_history.proofs.Sound.{Sound, sound-blank}
+use Rattle.stream_history.proofs.Tied.{one-more}
 use Rattle.stream_history.proofs.Every.{Kept, kept, legal-events}
-use Rattle.stream_history.proofs.Numbers.{Ordered, ordered-after, ordered-blank, all-handed}
+use Rattle.stream_history.proofs.Rising.{Ordered, ordered-after, ordered-blank, all-handed}
 
 pub adds-up : AddsUp
 adds-up size m cs = let g : Kept (worldAfter size m cs) (paperAfter size m cs) = kept size m cs in (g .sound .adds, g .tied .run)
+
+-- each count of a run is at most that of the accepted ones, and that has its limit
+pub numbers-kept : Numbers
+numbers-kept size m cs =
+    let g : Kept (worldAfter size m cs) (paperAfter size m cs) = kept size m cs in
+    let limit : paperAfter size m cs .run .accepted ≤ runLimit = g .sound .limit in (
+      g .tied .number,
+      rw (g .tied .run) limit,
+      rw (g .tied .run) (one-more _ (omega (arith, limit, g .sound .adds))),
+      rw (g .tied .run) (one-more _ (omega (arith, limit, g .sound .adds))),
+      rw (g .tied .run) (one-more _ (omega (arith, limit, g .sound .adds))),
+    )
 
 -- the verdict by the paper
 abbrev toldVerdict : Paper → Verdict

@@ -36,7 +36,6 @@ pub record Sound (p : Paper) : Type 0 where
   pub runs : p .running ≡ true → p .run .ran ≡ 1
   pub once : p .run .ran ≤ 1
   pub never : p .run .ran ≡ 0 → p .run .handed ≡ 0
-  pub low : All (λ x. x .frame .number < runLimit) (p .outgoing)
 
 -- which events a stream can make
 abbrev pub Fits : Paper → Event → Type 0
@@ -61,7 +60,6 @@ sound-blank size = record {
   runs = λ e. absurd (false≢true e);
   once = omega arith;
   never = λ e. refl;
-  low = tt;
 }
 
 -- the paper with these parts
@@ -98,7 +96,6 @@ sound-put p k s f =
       runs = s .runs;
       once = s .once;
       never = s .never;
-      low = s .low;
     }
 
 -- the oldest incoming buffer goes from the head of one queue to the end of the other: the line stays
@@ -119,7 +116,6 @@ sound-whole size granted on r [] o b t s f = record {
   runs = s .runs;
   once = s .once;
   never = s .never;
-  low = s .low;
 }
 sound-whole size granted on r (k ∷ i) o b t s f =
     let p : Paper = paper size granted on r (k ∷ i) o in
@@ -134,7 +130,6 @@ sound-whole size granted on r (k ∷ i) o b t s f =
       runs = s .runs;
       once = s .once;
       never = s .never;
-      low = all-snoc (λ x. x .frame .number < runLimit) o (record { index = k; frame = frameOf p b t }) (s .low) (f .1);
     }
 
 sound-handed : (size granted : ℕ) (on : Bool) (r : Run) (i : List ℕ) (o : List Pair)
@@ -151,7 +146,6 @@ sound-handed size granted on r i (x ∷ o) s f = record {
   runs = s .runs;
   once = s .once;
   never = go on refl;
-  low = s .low .1;
 }
   where
     go : (a : Bool) → on ≡ a → r .ran ≡ 0 → r .handed + 1 ≡ 0
@@ -173,7 +167,6 @@ sound-ended p n s h = go (p .running) refl
       runs = λ f. absurd (false≢true f);
       once = s .once;
       never = s .never;
-      low = tt;
     }
     go false e = rw e record {
       apart = tt;
@@ -186,7 +179,6 @@ sound-ended p n s h = go (p .running) refl
       runs = λ f. absurd (false≢true f);
       once = s .once;
       never = s .never;
-      low = tt;
     }
 
 pub sound-step : (p : Paper) (e : Event) → Sound p → Fits p e → Sound (step p e)
@@ -203,7 +195,6 @@ sound-step p damaged s f = record {
   runs = s .runs;
   once = s .once;
   never = s .never;
-  low = s .low;
 }
 sound-step p handed s f = sound-handed (p .size) (p .granted) (p .running) (p .run) (p .incoming) (p .outgoing) s f
 sound-step p begun s f = record {
@@ -217,7 +208,6 @@ sound-step p begun s f = record {
   runs = λ e. refl;
   once = omega arith;
   never = λ e. refl;
-  low = s .low;
 }
 sound-step p (ended n) s f = sound-ended p n s f
 sound-step p (sized n) s f = record {
@@ -231,6 +221,5 @@ sound-step p (sized n) s f = record {
   runs = s .runs;
   once = s .once;
   never = s .never;
-  low = s .low;
 }
 sound-step p idle s f = s

@@ -18,21 +18,22 @@ use Rattle.stream_words.specs.declared.Filled.{Filled}
 use Rattle.wire_read.specs.Lists.{any, rest}
 use Rattle.stream_slots.specs.Slot.{slotSize, slotOffset}
 use Rattle.stream_words.specs.Stream.{Queues, withRun, onQueues}
-use Rattle.stream_words.specs.Words.{low}
 use Rattle.stream_words.specs.Moves.{noFrame, ofBuffer, isIncoming, isOutgoing, oldestOf, nextOf, emptied, pushed, filledOldest, popped}
 use Rattle.stream_slots.proofs.Slots.{slot-least, slots-apart}
 use Rattle.stream_run.specs.declared.Reply.the-variants.{Done, Granted, Returned, Refused}
 use Rattle.stream_words.specs.Stream.{Run}
 use Rattle.stream_run.specs.Switches.{Step}
 use Rattle.stream_words.specs.Stream.{Stream}
-use Rattle.stream_run.specs.Stream.{oneMore, streaming, freshStream, started, stoppedRun, stopped, handedRun}
+use Rattle.stream_run.specs.Stream.{oneMore, reduced, Numbered, streaming, freshStream, started, stoppedRun, stopped, handedRun}
 use Rattle.stream_run.specs.Switches.{answers, refuses, grantOf, requestBuffersOf, startOf, stopOf}
 use Rattle.stream_queue.specs.Queueing.{enqueueOf, handedOver, dequeueOf}
 use Rattle.stream_run.proofs.Grants.{grant-few, grant-fits}
+use Rattle.stream_run.proofs.Numbered.{fresh-numbered, started-numbered, stopped-numbered}
 use Rattle.stream_arrival.specs.declared.Arrival.{Arrival}
 use Rattle.stream_arrival.specs.declared.Arrival.the-variants as arrivals
 use Rattle.stream_arrival.specs.Arrivals.{Arrived}
-use Rattle.stream_arrival.specs.Arrivals.{runLimit, countedRun, damagedRun, droppedRun, arrivedAs as arrives-as, placedIn, placedOf, acceptedOf, arrivalOf, writtenBy}
+use Rattle.stream_arrival.specs.Arrivals.{runLimit, countedRun, counted, damagedRun, droppedRun, arrivedAs as arrives-as, placedIn, placedOf, acceptedOf, arrivalOf, writtenBy}
+use Rattle.stream_arrival.proofs.Cases.{counted-numbered}
 use Rattle.stream_history.specs.Calls.{Call, Answer, World, opened, answer, withStream, next}
 use Rattle.stream_history.specs.Calls.Call.{request, enqueue, dequeue, start, stop, resize, arrival, other}
 use Rattle.stream_history.specs.Calls.Answer.{replied, arrived}
@@ -43,7 +44,7 @@ use Rattle.stream_history.proofs.Sound.{Sound, Fits, lineOf, line, pape
 
 -- a pair of the paper, as the stream keeps it
 abbrev pub entry : Pair → Filled
-entry x = record { index = x .index; number = x .frame .number; used = length (x .frame .bytes); time = x .frame .time }
+entry x = record { index = x .index; number = reduced (x .frame .place); used = length (x .frame .bytes); time = x .frame .time }
 
 -- the slot of x, in memory m with frames of this size, starts with its bytes
 abbrev pub Held : ℕ → List ℕ → Pair → Type 0
@@ -78,6 +79,7 @@ pub record Tied (w : World) (p : Paper) : Type 0 where
   pub size : w .size ≡ p .size
   pub running : streaming (w .stream) ≡ p .running
   pub run : w .stream .run ≡ p .run
+  pub number : Numbered (w .stream)
   pub noted : w .stream .length ≡ length (w .memory)
   pub holds : Holds (w .stream .queues) (p .granted) (p .incoming) (map entry (p .outgoing))
   pub fits : p .granted * slotSize (p .size) ≤ length (w .memory)
@@ -89,6 +91,7 @@ tied-opened size m = record {
   size = refl;
   running = refl;
   run = refl;
+  number = fresh-numbered (length m);
   noted = refl;
   holds = holds-empty 0;
   fits = omega arith;
@@ -108,7 +111,7 @@ firstOf (x ∷ o) = entry x
 -- the answer that the paper foretells
 abbrev pub Answers : Paper → Event → Answer → Type 0
 Answers p (put k) a = Unit {0}
-Answers p (whole b t) a = a ≡ arrived (placedAs (p .incoming) (p .run .accepted))
+Answers p (whole b t) a = a ≡ arrived (placedAs (p .incoming) (reduced (p .run .accepted)))
 Answers p damaged a = Unit {0}
 Answers p handed a = a ≡ replied (Returned (firstOf (p .outgoing)))
 Answers p begun a = Unit {0}
@@ -178,6 +181,7 @@ follows-enqueue w p k t s = go (leb (w .stream .queues .granted) k) refl (isInco
             size = t .size;
             running = t .running;
             run = t .run;
+            number = t .number;
             noted = t .noted;
             holds = holds-pushed q (p .granted) (p .incoming) (map entry (p .outgoing)) (t .holds) k (omega (arith, room-more p k s fit, length-map (p .outgoing) entry));
             fits = t .fits;
@@ -188,7 +192,7 @@ follows-enqueue w p k t s = go (leb (w .stream .queues .granted) k) refl (isInco
 -- ---- a buffer is handed over
 
 -- a count that is far from its end grows by one
-one-more : (n : ℕ) → n ≤ runLimit → oneMore n ≡ n + 1
+pub one-more : (n : ℕ) → n ≤ runLimit → oneMore n ≡ n + 1
 one-more n h = omega arith
 
 handed-run : (r q : Run) → r ≡ q → q .handed ≤ runLimit
@@ -199,13 +203,14 @@ handed-run r q e h =
 
 tied-handed : (w : World) (size granted : ℕ) (on : Bool) (r : Run) (i : List ℕ) (o : List Pair)
     → Tied w (paper size granted on r i o) → Sound (paper size granted on r i o) → 0 < length o
-    → Tied (withStream w (record { length = w .stream .length; streaming = w .stream .streaming; run = handedRun (w .stream .run); queues = popped (w .stream .queues) }))
+    → Tied (withStream w (record { length = w .stream .length; streaming = w .stream .streaming; run = handedRun (w .stream .run); number = w .stream .number; queues = popped (w .stream .queues) }))
     (step (paper size granted on r i o) handed)
 tied-handed w size granted on r i [] t s h = absurd (omega (arith, h))
 tied-handed w size granted on r i (x ∷ o) t s h = record {
   size = t .size;
   running = t .running;
   run = handed-run (w .stream .run) r (t .run) (omega (arith, s .adds, s .limit));
+  number = t .number;
   noted = t .noted;
   holds = holds-popped (w .stream .queues) granted i (entry x ∷ map entry o) (t .holds);
   fits = t .fits;
@@ -255,7 +260,7 @@ follows-start w p t s = go (eqb (w .stream .queues .granted) 0) (streaming (w .s
       tells = ap (λ (x : Bool). cond x idle begun) (sym (t .running) ∙ f);
       fits = sym (t .running) ∙ f;
       foretold = tt;
-      tied = record { size = t .size; running = refl; run = refl; noted = t .noted; holds = t .holds; fits = t .fits; held = t .held };
+      tied = record { size = t .size; running = refl; run = refl; number = started-numbered (w .stream); noted = t .noted; holds = t .holds; fits = t .fits; held = t .held };
     }
 
 ended-run : (a on : Bool) → not a ≡ on → (r q : Run) → r ≡ q → (d n : ℕ) → d ≡ n → cond a r (stoppedRun r d) ≡ cond on (stoppedRun q n) q
@@ -271,6 +276,7 @@ tied-ended w p n t h = record {
   running = refl;
   run = ended-run (eqb (w .stream .streaming) 0) (p .running) (t .running) (w .stream .run) (p .run) (t .run) (length (w .stream .queues .outgoing)) (length (p .outgoing))
       (ap length (t .holds .outs) ∙ length-map (p .outgoing) entry);
+  number = stopped-numbered (w .stream) n (t .number);
   noted = t .noted;
   holds = holds-empty n;
   fits = h;
@@ -330,6 +336,7 @@ follows-resize w p n t s = go (eqb (w .stream .queues .granted) 0) refl
             size = refl;
             running = t .running;
             run = t .run;
+            number = t .number;
             noted = t .noted;
             holds = t .holds;
             fits = subst (λ (g : ℕ). g * slotSize n ≤ length (w .memory)) (sym z) (omega arith);
@@ -372,14 +379,14 @@ held-other size k m b l x g = (g .0 .0, same ∙ g .0 .1)
           (omega (arith, slots-apart k (x .index) size (omega (arith, g .1)), slot-least size))
     ]
 
--- the number of an arrival is its count
-number-is : (r q : Run) → r ≡ q → q .accepted ≤ runLimit → low (r .accepted) ≡ q .accepted
-number-is r q e h = ap (λ (x : Run). low (x .accepted)) e ∙ omega arith
+-- the number of an arrival is its place reduced
+number-is : (s : Stream) (q : Run) → Numbered s → s .run ≡ q → s .number ≡ reduced (q .accepted)
+number-is s q n e = n ∙ ap (λ (x : Run). reduced (x .accepted)) e
 
 -- what a stored arrival leaves
 abbrev storedStream : World → List ℕ → Time → Stream
 storedStream w b t =
-    onQueues (λ q. filledOldest q (low (w .stream .run .accepted)) (length b) t) (withRun (w .stream) (countedRun (w .stream .run)))
+    onQueues (λ q. filledOldest q (w .stream .number) (length b) t) (counted (w .stream))
 
 tied-stored : (w : World) (size granted : ℕ) (on : Bool) (r : Run) (k : ℕ) (i : List ℕ) (o : List Pair) (b : List ℕ) (t : Time)
     → Tied w (paper size granted on r (k ∷ i) o) → Sound (paper size granted on r (k ∷ i) o) → length b ≤ size
@@ -393,16 +400,17 @@ tied-stored w size granted on r k i o b t x s l =
     let lt : k < granted = all-append (λ j. j < granted) (map indexOf o) (k ∷ i) (s .below) .1 .0 in
     let in-it : at + slotSize size ≤ length m = omega (arith, slots-apart k granted size lt, x .fits) in
     let notk : All (λ y. y .index ≢ k) o = all-of-map indexOf (λ y. y ≢ k) o (nodup-before (map indexOf o) k i (s .apart)) in
-    let number : low (w .stream .run .accepted) ≡ r .accepted = number-is (w .stream .run) r (x .run) (s .limit) in
-    let entries : map entry o ++ (record { index = k; number = low (w .stream .run .accepted); used = length b; time = t } ∷ []) ≡ map entry (o ++ (new ∷ [])) =
+    let number : w .stream .number ≡ reduced (r .accepted) = number-is (w .stream) r (x .number) (x .run) in
+    let entries : map entry o ++ (record { index = k; number = w .stream .number; used = length b; time = t } ∷ []) ≡ map entry (o ++ (new ∷ [])) =
     ap (λ (n : ℕ). map entry o ++ (record { index = k; number = n; used = length b; time = t } ∷ [])) number ∙ sym (map-snoc entry o new) in
     record {
       size = x .size;
       running = x .running;
       run = stored-run (w .stream .run) r (x .run);
+      number = counted-numbered (w .stream) (x .number);
       noted = x .noted ∙ sym (length-sets m at b);
-      holds = subst (Holds (filledOldest (w .stream .queues) (low (w .stream .run .accepted)) (length b) t) granted i) entries
-          (holds-filled (w .stream .queues) granted (k ∷ i) (map entry o) (x .holds) k i refl (low (w .stream .run .accepted)) (length b) t);
+      holds = subst (Holds (filledOldest (w .stream .queues) (w .stream .number) (length b) t) granted i) entries
+          (holds-filled (w .stream .queues) granted (k ∷ i) (map entry o) (x .holds) k i refl (w .stream .number) (length b) t);
       fits = omega (arith, x .fits, length-sets m at b);
       held = all-snoc (Held size (sets m at b)) o new
           (all-map (λ y. Held size m y × (y .index ≢ k)) (Held size (sets m at b)) (held-other size k m b l) o (all-both (Held size m) (λ y. y .index ≢ k) o (x .held) notk))
@@ -422,15 +430,15 @@ Comes w p b t fl lends r =
 comes-placed : (w : World) (size granted : ℕ) (on : Bool) (r : Run) (i : List ℕ) (o : List Pair) (b : List ℕ) (t : Time) (fl : Bool) (lends : List ℕ)
     → Tied w (paper size granted on r i o) → Sound (paper size granted on r i o) → Fits (paper size granted on r i o) (whole b t)
     → cond on (arrivedWhole (paper size granted on r i o) b t fl) idle ≡ whole b t
-    → Comes w (paper size granted on r i o) b t fl lends (placedOf (withRun (w .stream) (countedRun (w .stream .run))) (w .stream .run .accepted) (length b) t)
+    → Comes w (paper size granted on r i o) b t fl lends (placedOf (counted (w .stream)) (w .stream .number) (length b) t)
 unfolding placedOf
 comes-placed w size granted on r i o b t fl lends x s f e =
-    subst (λ (l : List ℕ). Comes w (paper size granted on r i o) b t fl lends (placedIn (nextOf l) (withRun (w .stream) (countedRun (w .stream .run))) (w .stream .run .accepted) (length b) t))
+    subst (λ (l : List ℕ). Comes w (paper size granted on r i o) b t fl lends (placedIn (nextOf l) (counted (w .stream)) (w .stream .number) (length b) t))
     (sym (x .holds .ins)) (go i x s f e)
   where
     go : (i : List ℕ) → Tied w (paper size granted on r i o) → Sound (paper size granted on r i o) → Fits (paper size granted on r i o) (whole b t)
         → cond on (arrivedWhole (paper size granted on r i o) b t fl) idle ≡ whole b t
-        → Comes w (paper size granted on r i o) b t fl lends (placedIn (nextOf i) (withRun (w .stream) (countedRun (w .stream .run))) (w .stream .run .accepted) (length b) t)
+        → Comes w (paper size granted on r i o) b t fl lends (placedIn (nextOf i) (counted (w .stream)) (w .stream .number) (length b) t)
     go [] x s f e = record {
       event = whole b t;
       tells = e;
@@ -440,6 +448,7 @@ comes-placed w size granted on r i o b t fl lends x s f e =
         size = x .size;
         running = x .running;
         run = dropped-run (w .stream .run) r (x .run) (omega (arith, s .adds, s .limit));
+        number = counted-numbered (w .stream) (x .number);
         noted = x .noted;
         holds = x .holds;
         fits = x .fits;
@@ -450,19 +459,19 @@ comes-placed w size granted on r i o b t fl lends x s f e =
       event = whole b t;
       tells = e;
       fits = f;
-      foretold = ap (λ (n : ℕ). arrived (arrivals.Stored k n)) (number-is (w .stream .run) r (x .run) (s .limit));
+      foretold = ap (λ (n : ℕ). arrived (arrivals.Stored k n)) (number-is (w .stream) r (x .number) (x .run));
       tied = subst (λ (n : ℕ). Tied (record { stream = storedStream w b t; size = w .size; memory = sets (w .memory) (slotOffset k n) b }) (step (paper size granted on r (k ∷ i) o) (whole b t)))
           (sym (x .size)) (tied-stored w size granted on r k i o b t x s (f .2));
     }
 
 comes-accepted : (w : World) (p : Paper) (b : List ℕ) (t : Time) (fl : Bool) (lends : List ℕ) → Tied w p → Sound p → p .running ≡ true → p .run .accepted < runLimit
-    → Comes w p b t fl lends (acceptedOf (withRun (w .stream) (countedRun (w .stream .run))) (w .stream .run .accepted) (length b) fl (w .size) t)
+    → Comes w p b t fl lends (acceptedOf (counted (w .stream)) (w .stream .number) (length b) fl (w .size) t)
 unfolding acceptedOf
 comes-accepted w p b t fl lends x s on l = go (fl && leb (length b) (w .size)) refl
   where
     z : Bool → Arrived
-    z v = cond v (placedOf (withRun (w .stream) (countedRun (w .stream .run))) (w .stream .run .accepted) (length b) t)
-        (arrives-as arrivals.Damaged (withRun (w .stream) (damagedRun (countedRun (w .stream .run)))))
+    z v = cond v (placedOf (counted (w .stream)) (w .stream .number) (length b) t)
+        (arrives-as arrivals.Damaged (withRun (counted (w .stream)) (damagedRun (countedRun (w .stream .run)))))
 
     tell : (v : Bool) → (fl && leb (length b) (w .size)) ≡ v → cond (p .running) (arrivedWhole p b t fl) idle ≡ cond v (whole b t) damaged
     tell v e = accepted-told p b t fl v on (ap (λ (n : ℕ). fl && leb (length b) n) (sym (x .size)) ∙ e)
@@ -480,6 +489,7 @@ comes-accepted w p b t fl lends x s on l = go (fl && leb (length b) (w .size)) r
         size = x .size;
         running = x .running;
         run = damaged-run (w .stream .run) (p .run) (x .run) (omega (arith, s .adds, s .limit));
+        number = counted-numbered (w .stream) (x .number);
         noted = x .noted;
         holds = x .holds;
         fits = x .fits;
@@ -497,7 +507,7 @@ comes-lent w p b t fl lends x s =
     z : Bool → Bool → Bool → Arrived
     z a c d = cond (not a) (arrives-as (arrivals.Refused MemoryLength) (w .stream)) (cond (not c) (arrives-as arrivals.Ignored (w .stream))
         (cond d (arrives-as (arrivals.Refused RunFull) (w .stream))
-        (acceptedOf (withRun (w .stream) (countedRun (w .stream .run))) (w .stream .run .accepted) (length b) fl (w .size) t)))
+        (acceptedOf (counted (w .stream)) (w .stream .number) (length b) fl (w .size) t)))
 
     go : (a : Bool) → a ≡ true → (c : Bool) → streaming (w .stream) ≡ c → (d : Bool) → leb runLimit (w .stream .run .accepted) ≡ d → Comes w p b t fl lends (z a c d)
     go false e c f d g = absurd (false≢true e)

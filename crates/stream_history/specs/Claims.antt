@@ -9,8 +9,10 @@ use Rattle.stream_words.specs.declared.Time.{Time}
 use Rattle.stream_words.specs.declared.Filled.{Filled}
 use Rattle.stream_slots.specs.Slot.{slotOffset}
 use Rattle.stream_run.specs.declared.Reply.the-variants.{Done, Returned}
+use Rattle.stream_run.specs.Stream.{oneMore, reduced, Numbered}
 use Rattle.stream_words.specs.Moves.{standingOf}
 use Rattle.stream_arrival.specs.declared.Arrival.the-variants.{Stored}
+use Rattle.stream_arrival.specs.Arrivals.{runLimit}
 use Rattle.stream_status.specs.Buffer.{flagsFor}
 use Rattle.stream_verdict.specs.Film.{verdictOf}
 use Rattle.stream_verdict.specs.declared.Verdict.the-variants.{Running, Blank, Gaps, Complete}
@@ -83,7 +85,7 @@ module _ (size : ℕ) (m : List ℕ) (before : List Call) (k : ℕ) (mid : List 
   abbrev pub Accepted : Type 0
   Accepted = (answer (worldAfter size m before) (enqueue k) ≡ replied Done) × Calm since
 
--- b. the (i+1)th whole accepted arrival from there on is stored in k, under the count of arrivals accepted before it in the run,
+-- b. the (i+1)th whole accepted arrival from there on is stored in k, under the count of arrivals accepted before it in the run, reduced,
 -- and its bytes then stand at the start of k's slot
 abbrev pub Stores : Type 0
 Stores = (size : ℕ) (m : List ℕ) (before : List Call) (k : ℕ) (mid : List Call) (b : List ℕ) (t : Time) (w : Bool) (lends : List ℕ)
@@ -91,7 +93,7 @@ Stores = (size : ℕ) (m : List ℕ) (before : List Call) (k : ℕ) (mid : List 
     → wholes (since size m before k mid) ≡ waitingBefore size m before k mid
     → told (paperAfter size m (upTo size m before k mid)) (arrival b t w lends) (answer (worldAfter size m (upTo size m before k mid)) (arrival b t w lends)) ≡ whole b t
     → (answer (worldAfter size m (upTo size m before k mid)) (arrival b t w lends)
-    ≡ arrived (Stored k (paperAfter size m (upTo size m before k mid) .run .accepted)))
+    ≡ arrived (Stored k (reduced (paperAfter size m (upTo size m before k mid) .run .accepted))))
     × (slotBytes (next (worldAfter size m (upTo size m before k mid)) (arrival b t w lends)) k (length b) ≡ b)
 
 -- the whole accepted arrival among calls before which n whole ones came
@@ -114,7 +116,7 @@ Returns = (size : ℕ) (m : List ℕ) (before : List Call) (k : ℕ) (mid : List
     → dequeues (since size m before k mid) ≡ filledBefore size m before k mid + waitingBefore size m before k mid
     → answer (worldAfter size m (upTo size m before k mid)) dequeue ≡ replied (Returned f)
     → (a : ArrivalAmong (worldAfter size m (handedIn size m before k mid)) (paperAfter size m (handedIn size m before k mid)) mid (waitingBefore size m before k mid))
-    × (f ≡ record { index = k; number = paperAfter size m (upTo size m before k (a .front)) .run .accepted; used = length (a .bytes); time = a .time })
+    × (f ≡ record { index = k; number = reduced (paperAfter size m (upTo size m before k (a .front)) .run .accepted); used = length (a .bytes); time = a .time })
     × (slotBytes (worldAfter size m (upTo size m before k mid)) k (length (a .bytes)) ≡ a .bytes)
 
 -- ---- d. accepted = handed over + outgoing + damaged + dropped + discarded by its stop, and the stream's counts are those
@@ -125,14 +127,23 @@ AddsUp = (size : ℕ) (m : List ℕ) (cs : List Call)
     + paperAfter size m cs .run .dropped + paperAfter size m cs .run .discarded)
     × (worldAfter size m cs .stream .run ≡ paperAfter size m cs .run)
 
+-- the number that is kept for the next arrival is the count reduced; and no count of a run comes near 2 ^ 64, so each grows by one where one more is counted
+abbrev pub Numbers : Type 0
+Numbers = (size : ℕ) (m : List ℕ) (cs : List Call)
+    → Numbered (worldAfter size m cs .stream)
+    × (worldAfter size m cs .stream .run .accepted ≤ runLimit)
+    × (oneMore (worldAfter size m cs .stream .run .handed) ≡ worldAfter size m cs .stream .run .handed + 1)
+    × (oneMore (worldAfter size m cs .stream .run .damaged) ≡ worldAfter size m cs .stream .run .damaged + 1)
+    × (oneMore (worldAfter size m cs .stream .run .dropped) ≡ worldAfter size m cs .stream .run .dropped + 1)
+
 -- ---- e. the verdicts
 
--- the numbers of the arrivals handed over in the last run, after a list of calls
+-- the places in the run of the arrivals handed over in the last one, after a list of calls
 abbrev pub handedAfter : ℕ → List ℕ → List Call → List ℕ
 handedAfter size m cs = handedOver (blank size) [] (events (opened size m) (blank size) cs)
 
 -- a run is over in which at least one arrival was accepted, and every one was whole, found a buffer and was handed over: none was damaged, none
--- dropped, as many were handed over as accepted, and their numbers l are 0, 1, 2 and so on up to the last
+-- dropped, as many were handed over as accepted, and their places l in the run are 0, 1, 2 and so on up to the last: full counts, not numbers
 abbrev pub AllHandedOver : Paper → List ℕ → Type 0
 AllHandedOver p l =
     (p .running ≡ false) × (p .run .ran ≡ 1) × (0 < p .run .accepted) × (p .run .damaged ≡ 0) × (p .run .dropped ≡ 0) × (p .run .handed ≡ p .run .accepted)

@@ -15,9 +15,9 @@ use Rattle.stream_history.specs.Calls.{Call, Answer, World, answer, next
 use Rattle.stream_history.specs.Calls.Call.{request, enqueue, dequeue, start, stop, resize, arrival, other}
 use Rattle.stream_history.specs.Calls.Answer.{replied, arrived}
 
--- An arrival: its number in the run, its time and its bytes.
+-- An arrival: its place in the run, which is how many were accepted before it, its time and its bytes.
 pub record Frame : Type 0 where
-  pub number : ℕ
+  pub place : ℕ
   pub time : Time
   pub bytes : List ℕ
 
@@ -116,7 +116,7 @@ rest (x ∷ xs) = xs
 
 -- the arrival that comes next
 abbrev pub frameOf : Paper → List ℕ → Time → Frame
-frameOf p b t = record { number = p .run .accepted; time = t; bytes = b }
+frameOf p b t = record { place = p .run .accepted; time = t; bytes = b }
 
 -- the outgoing queue after a whole arrival, by the incoming one
 abbrev pub filled : List ℕ → Frame → List Pair → List Pair
@@ -159,21 +159,21 @@ abbrev pub noted : Paper → List Event → Paper
 noted p [] = p
 noted p (e ∷ es) = noted (step p e) es
 
--- the number of the arrival in a pair
-abbrev pub numberOf : Pair → ℕ
-numberOf x = x .frame .number
+-- the place in the run of the arrival in a pair
+abbrev pub placeInRun : Pair → ℕ
+placeInRun x = x .frame .place
 
 -- the first of a list, alone
 abbrev pub first : {A : Type 0} → List A → List A
 first [] = []
 first (x ∷ xs) = x ∷ []
 
--- the numbers of the arrivals that were handed over in the run, after an event
+-- the places of the arrivals that were handed over in the run, after an event
 abbrev pub given : Paper → List ℕ → Event → List ℕ
 given p l (put k) = l
 given p l (whole b t) = l
 given p l damaged = l
-given p l handed = l ++ map numberOf (first (p .outgoing))
+given p l handed = l ++ map placeInRun (first (p .outgoing))
 given p l begun = []
 given p l (ended n) = l
 given p l (sized n) = l

@@ -2,7 +2,7 @@
 // and its contract is the claim.
 ghost use mathlib.Core.Path.{_≡_};
 ghost use mathlib.Core.Bool.{true};
-ghost use Rattle.stream_history.specs.Claims.{OnePlace, Stores, Returns, AddsUp, Verdicts};
+ghost use Rattle.stream_history.specs.Claims.{OnePlace, Stores, Returns, AddsUp, Numbers, Verdicts};
 
 // Every buffer is dequeued, incoming or outgoing, and only one of these.
 pub fn one_place() -> bool
@@ -28,6 +28,13 @@ pub fn returned_in_order() -> bool
 // The arrivals accepted in a run are those handed over, outgoing, damaged, dropped and discarded by its stop.
 pub fn adds_up() -> bool
     ensures { λ r. ⌜ (r ≡ true) × AddsUp ⌝ }
+{
+    true
+}
+
+// The number kept for the next arrival is the count reduced, and no count of a run ends.
+pub fn numbers() -> bool
+    ensures { λ r. ⌜ (r ≡ true) × Numbers ⌝ }
 {
     true
 }

@@ -1,5 +1,6 @@
 -- One stream: at opening, when a run begins, when it ends.
 use Prim.Native.Nat.{ℕ, _+_, _%_, _^_}
+use mathlib.Core.Path.{_≡_}
 use mathlib.Core.Bool.{Bool, cond, not}
 use lib.Dec.{eqb}
 use lib.ListN.{length}
@@ -9,6 +10,14 @@ use Rattle.stream_words.specs.Moves.{emptied}
 -- one more in a count of 64 bits
 abbrev pub oneMore : ℕ → ℕ
 oneMore n = (n + 1) % 2 ^ 64
+
+-- the number of an arrival before which n were accepted in its run: the count reduced
+abbrev pub reduced : ℕ → ℕ
+reduced n = n % 2 ^ 32
+
+-- the next number is that of the count: in every history from an opening
+abbrev pub Numbered : Stream → Type 0
+Numbered s = s .number ≡ reduced (s .run .accepted)
 
 -- whether a run is on
 abbrev pub streaming : Stream → Bool
@@ -20,11 +29,11 @@ freshRun ran = record { ran = ran; accepted = 0; handed = 0; damaged = 0; droppe
 
 -- after opening: no buffers, no run
 unfoldable pub freshStream : ℕ → Stream
-freshStream n = record { length = n; streaming = 0; run = freshRun 0; queues = emptied 0 }
+freshStream n = record { length = n; streaming = 0; run = freshRun 0; number = 0; queues = emptied 0 }
 
--- a run begins, with a record of its own
+-- a run begins, with a record of its own; its numbers start at 0
 unfoldable pub started : Stream → Stream
-started s = record { length = s .length; streaming = 1; run = freshRun 1; queues = s .queues }
+started s = record { length = s .length; streaming = 1; run = freshRun 1; number = 0; queues = s .queues }
 
 -- what a stop leaves of the record: it discards what is outgoing
 abbrev pub stoppedRun : Run → ℕ → Run
@@ -38,6 +47,7 @@ stopped s n =
       length = s .length;
       streaming = 0;
       run = cond (eqb (s .streaming) 0) (s .run) (stoppedRun (s .run) (length (s .queues .outgoing)));
+      number = s .number;
       queues = emptied n;
     }
 

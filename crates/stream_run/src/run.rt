@@ -9,6 +9,7 @@ use stream_words::DISCARDED;
 use stream_words::DROPPED;
 use stream_words::HANDED;
 use stream_words::LENGTH;
+use stream_words::NEXT_NUMBER;
 use stream_words::RAN;
 use stream_words::STREAMING;
 use stream_words::Words;
@@ -22,7 +23,7 @@ pub fn fresh(length: u64) -> Words
     w
 }
 
-// A run begins, with a record of its own.
+// A run begins, with a record of its own and numbers from 0 on.
 pub(crate) fn begin(s: &mut Words)
     ensures { λ _. ⌜ streamIn (now (s .exit)) ≡ started (streamIn (now (s .entry))) ⌝ }
 {
@@ -34,6 +35,7 @@ pub(crate) fn begin(s: &mut Words)
     s[DAMAGED] = 0;
     s[DROPPED] = 0;
     s[DISCARDED] = 0;
+    s[NEXT_NUMBER] = 0;
 }
 
 // A run ends: what is outgoing is discarded by the stop. With no run on, the record stays. So many buffers are left, all dequeued.

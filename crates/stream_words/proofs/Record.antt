@@ -9,10 +9,10 @@ use mathlib.Core.List.{List, [], _∷_}
 use lib.ListN.{length, getD, set, length-set}
 use lib.Seq.{sets, getD-set-same, getD-set-other}
 use Rattle.stream_words.specs.Stream.{Stream}
-use Rattle.stream_words.specs.Words.{queuesIn, streamIn}
+use Rattle.stream_words.specs.Words.{low, queuesIn, streamIn}
 use Rattle.stream_words.proofs.Kept.{queues-kept}
 
--- the stream with x for word k of its record
+-- the stream with x for word k of its record, or for its next number
 abbrev pub stored : Stream → ℕ → ℕ → Stream
 stored s k x =
     record {
@@ -27,6 +27,7 @@ stored s k x =
             dropped = cond (eqb 6 k) x (s .run .dropped);
             discarded = cond (eqb 7 k) x (s .run .discarded);
           };
+      number = cond (eqb 12 k) (low x) (s .number);
       queues = s .queues;
     }
 
@@ -43,11 +44,18 @@ word-set w k j x h = by (eqb j k) refl
     by true e = rw (eqb-true j k e) (getD-set-same w k x 0 h)
     by false e = getD-set-other w k j x 0 (eqb-false j k e)
 
--- a store in the record
-pub stream-set : (w : List ℕ) (k x : ℕ) → length w ≡ 208 → k < 8 → streamIn (set w k x) ≡ stored (streamIn w) k x
+-- and what stands there of 32 bits
+low-set : (w : List ℕ) (k j x : ℕ) → k < length w → low (getD (set w k x) j 0) ≡ cond (eqb j k) (low x) (low (getD w j 0))
+low-set w k j x h = ap low (word-set w k j x h) ∙ by (eqb j k)
+  where
+    by : (t : Bool) → low (cond t x (getD w j 0)) ≡ cond t (low x) (low (getD w j 0))
+    by true = refl
+    by false = refl
+
+-- a store where no buffer stands
+beside : (w : List ℕ) (k x : ℕ) → k < length w → ((q : ℕ) → 8 ≤ q → (q ≡ 12 → ⊥) → q ≡ k → ⊥) → streamIn (set w k x) ≡ stored (streamIn w) k x
 unfolding streamIn
-stream-set w k x long h =
-    let l : k < length w = omega arith in
+beside w k x l apart =
     rw (
       word-set w k 0 x l,
       word-set w k 1 x l,
@@ -57,8 +65,17 @@ stream-set w k x long h =
       word-set w k 5 x l,
       word-set w k 6 x l,
       word-set w k 7 x l,
-      queues-kept (set w k x) w (λ q m. getD-set-other w k q x 0 (λ e. omega arith)),
+      low-set w k 12 x l,
+      queues-kept (set w k x) w (λ q m n. getD-set-other w k q x 0 (apart q m n)),
     )
+
+-- a store in the record
+pub stream-set : (w : List ℕ) (k x : ℕ) → length w ≡ 208 → k < 8 → streamIn (set w k x) ≡ stored (streamIn w) k x
+stream-set w k x long h = beside w k x (omega arith) (λ q m n e. omega arith)
+
+-- a store of the next number
+pub number-set : (w : List ℕ) (x : ℕ) → length w ≡ 208 → streamIn (set w 12 x) ≡ stored (streamIn w) 12 x
+number-set w x long = beside w 12 x (omega arith) (λ q m n e. n e)
 
 -- stores in a row
 pub stream-sets : (xs w : List ℕ) (k : ℕ) → length w ≡ 208 → k + length xs ≤ 8 → streamIn (sets w k xs) ≡ storedAll (streamIn w) k xs
@@ -88,6 +105,10 @@ granted-is w = refl
 pub accepted-is : (w : List ℕ) → streamIn w .run .accepted ≡ getD w 3 0
 unfolding streamIn
 accepted-is w = refl
+
+pub number-is : (w : List ℕ) → streamIn w .number ≡ low (getD w 12 0)
+unfolding streamIn
+number-is w = refl
 
 pub handed-is : (w : List ℕ) → streamIn w .run .handed ≡ getD w 4 0
 unfolding streamIn

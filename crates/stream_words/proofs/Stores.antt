@@ -57,17 +57,17 @@ module _ (w : List ℕ) (long : length w ≡ 208) where
       (stores-here [] (set (set w 9 h) 10 (d - 1)) 11 (n - 1) (simp length-set (omega arith)) tt)
       (λ q a b c. stores-other ((9, h) ∷ (10, d - 1) ∷ (11, n - 1) ∷ []) w q (a, (b, (c, tt))))
 
-  pub fill-words : (d p a b x y : ℕ) (t : Time) → b < 2 ^ 32 → x < 2 ^ 32 → y < 2 ^ 32 → timeOf x y ≡ t → d ≡ holdingIn w → d < linedIn w → p ≡ placeIn w d
-      → streamIn (set (set (set (set (set w (48 + p) a) (80 + p) b) (112 + p) x) (144 + p) y) 10 (d + 1)) ≡ withQueues (streamIn w) (filledOldest (queuesIn w) (low a) b t)
-  fill-words d p a b x y t hb hx hy ht hd some hp =
+  pub fill-words : (d p a b x y : ℕ) (t : Time) → a < 2 ^ 32 → b < 2 ^ 32 → x < 2 ^ 32 → y < 2 ^ 32 → timeOf x y ≡ t → d ≡ holdingIn w → d < linedIn w → p ≡ placeIn w d
+      → streamIn (set (set (set (set (set w (48 + p) a) (80 + p) b) (112 + p) x) (144 + p) y) 10 (d + 1)) ≡ withQueues (streamIn w) (filledOldest (queuesIn w) a b t)
+  fill-words d p a b x y t ha hb hx hy ht hd some hp =
       let l : List (ℕ × ℕ) = (48 + p, a) ∷ (80 + p, b) ∷ (112 + p, x) ∷ (144 + p, y) ∷ (10, d + 1) ∷ [] in
       let w₁ = set w (48 + p) a in
       let w₂ = set w₁ (80 + p) b in
       let w₃ = set w₂ (112 + p) x in
       let w₄ = set w₃ (144 + p) y in
-      fill-view _ w d p (low a) b t hd some hp
+      fill-view _ w d p a b t hd some hp
       (ap low (stores-here ((80 + p, b) ∷ (112 + p, x) ∷ (144 + p, y) ∷ (10, d + 1) ∷ []) w (48 + p) a (omega arith)
-      (λ e. omega arith, (λ e. omega arith, (λ e. omega arith, (λ e. omega arith, tt))))))
+      (λ e. omega arith, (λ e. omega arith, (λ e. omega arith, (λ e. omega arith, tt))))) ∙ low-small a ha)
       (ap low (stores-here ((112 + p, x) ∷ (144 + p, y) ∷ (10, d + 1) ∷ []) w₁ (80 + p) b (simp length-set (omega arith)) (λ e. omega arith, (λ e. omega arith, (λ e. omega arith, tt)))) ∙ low-small b hb)
       (rw (
         stores-here ((144 + p, y) ∷ (10, d + 1) ∷ []) w₂ (112 + p) x (simp length-set (omega arith)) (λ e. omega arith, (λ e. omega arith, tt)),

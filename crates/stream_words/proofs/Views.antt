@@ -31,7 +31,7 @@ unfolding emptied queuesIn
 empty-view v w g v8 v10 v11 other =
     let d : holdingIn v ≡ 0 = omega arith in
     let n : linedIn v - holdingIn v ≡ 0 = omega arith in
-    run-kept v w _ (λ j h. other j (λ e. omega arith) (λ e. omega arith) (λ e. omega arith))
+    run-kept v w _ (λ j h. other j (λ e. omega arith) (λ e. omega arith) (λ e. omega arith)) (other 12 (λ e. omega arith) (λ e. omega arith) (λ e. omega arith))
     (queues-are (queuesIn v) g [] [] v8 (rw n (tab-none _)) (rw d (tab-none _)))
 
 -- there is room
@@ -86,7 +86,7 @@ module _ (v w : List ℕ) (k n d p : ℕ) (hn : n ≡ linedIn w) (room : n < 32)
 
   pub push-view : streamIn v ≡ withQueues (streamIn w) (pushed (queuesIn w) k)
   push-view =
-      line-changed v w _ _ (λ j h. other j (λ e. omega arith) (λ e. omega arith) (λ e. omega arith))
+      line-changed v w _ _ (λ j h. other j (λ e. omega arith) (λ e. omega arith) (λ e. omega arith)) (other 12 (λ e. omega arith) (λ e. omega arith) (λ e. omega arith))
       push-incoming push-outgoing
       ∙ ap (withQueues (streamIn w)) (sym (pushed-is (queuesIn w) k (omega (arith, line-length w))))
 
@@ -164,7 +164,7 @@ module _ (v w : List ℕ) (n d : ℕ) (hn : n ≡ linedIn w) (hd : d ≡ holding
   pub pop-view : streamIn v ≡ withQueues (streamIn w) (popped (queuesIn w))
   unfolding popped
   pop-view =
-      line-changed v w _ _ (λ j h. other j (λ e. omega arith) (λ e. omega arith) (λ e. omega arith))
+      line-changed v w _ _ (λ j h. other j (λ e. omega arith) (λ e. omega arith) (λ e. omega arith)) (other 12 (λ e. omega arith) (λ e. omega arith) (λ e. omega arith))
       pop-incoming pop-outgoing
 
 one-on : (d i : ℕ) → d + 1 + i ≡ d + suc i
@@ -231,5 +231,5 @@ module _ (v w : List ℕ) (d p a b : ℕ) (t : Time) (hd : d ≡ holdingIn w) (s
 
   pub fill-view : streamIn v ≡ withQueues (streamIn w) (filledOldest (queuesIn w) a b t)
   fill-view =
-      line-changed v w _ _ (λ j h. under j (omega arith) (λ e. omega arith)) fill-incoming fill-outgoing
+      line-changed v w _ _ (λ j h. under j (omega arith) (λ e. omega arith)) (under 12 (omega arith) (λ e. omega arith)) fill-incoming fill-outgoing
       ∙ ap (withQueues (streamIn w)) (sym (filled-is (queuesIn w) _ _ a b t fill-waiting))

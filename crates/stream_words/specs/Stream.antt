@@ -18,16 +18,17 @@ pub record Queues : Type 0 where
   pub incoming : List ℕ
   pub outgoing : List Filled
 
--- the length of the memory as it was noted at opening, whether a run is on (not 0), its record, the buffers
+-- the length of the memory as it was noted at opening, whether a run is on (not 0), its record, the number that its next arrival gets, the buffers
 pub record Stream : Type 0 where
   pub length : ℕ
   pub streaming : ℕ
   pub run : Run
+  pub number : ℕ
   pub queues : Queues
 
 -- the same stream with other queues
 abbrev pub withQueues : Stream → Queues → Stream
-withQueues s q = record { length = s .length; streaming = s .streaming; run = s .run; queues = q }
+withQueues s q = record { length = s .length; streaming = s .streaming; run = s .run; number = s .number; queues = q }
 
 -- its queues changed by f
 abbrev pub onQueues : (Queues → Queues) → Stream → Stream
@@ -35,4 +36,4 @@ onQueues f s = withQueues s (f (s .queues))
 
 -- the same stream with another record
 abbrev pub withRun : Stream → Run → Stream
-withRun s r = record { length = s .length; streaming = s .streaming; run = r; queues = s .queues }
+withRun s r = record { length = s .length; streaming = s .streaming; run = r; number = s .number; queues = s .queues }

@@ -69,6 +69,9 @@ pub const HOLDING: usize = 10;
 
 pub const LINED: usize = 11;
 
+// The number that the next arrival of the run gets: 32 bits.
+pub const NEXT_NUMBER: usize = 12;
+
 // The rings: for each place its buffer's index, and of the frame in it the number, the bytes used, the time.
 pub const INDEX: usize = 16;
 

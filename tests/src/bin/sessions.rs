@@ -131,7 +131,7 @@ fn one<T: Recorder>(seed: u64, make: impl Fn() -> T) -> ExitCode {
     }
     match difference(&session, &make) {
         None => {
-            println!("session {seed:#x}: {} calls, all equal", session.steps.len());
+            println!("session {seed:#x}: {} steps, all equal", session.steps.len());
             ExitCode::SUCCESS
         }
         Some(found) => {

@@ -1,5 +1,6 @@
 //! Sessions at random. The generator runs the model beside it, so that it knows which calls lead deeper.
 
+pub mod ages;
 pub mod arguments;
 pub mod captions;
 pub mod damage;
@@ -10,7 +11,7 @@ use crate::draft::Draft;
 use crate::model::buffers::{Place, Stream};
 use crate::model::services::Lines;
 use crate::model::words::*;
-use crate::model::Device;
+use crate::model::{Device, RUN_LIMIT};
 use crate::random::Random;
 use crate::recorder::{Recorder, CAPTIONS, PICTURES, STREAMS};
 use crate::session::{made_length, Arrival, Frame, Lent, Session, Step};
@@ -48,6 +49,9 @@ impl Manner {
 
 /// The longest frame that is made to arrive whole.
 const LONGEST_FRAME: usize = 400_000;
+
+/// One in so many of the steps about a stream with a run on makes that run old.
+const AGES: usize = 64;
 
 struct Generator {
     random: Random,
@@ -128,6 +132,11 @@ impl Generator {
                 self.device.arrival(arrival.kind, memory, &self.frame, arrival.seconds, arrival.microseconds);
             }
             Step::Plane { .. } => {}
+            Step::Age(age) => {
+                if let Some(now) = self.device.accepted(age.kind) {
+                    self.device.age(age.kind, age.past(now));
+                }
+            }
         }
         self.steps.push(step);
     }
@@ -194,6 +203,14 @@ impl Generator {
         let (buffers, streaming, frames) = (stream.granted > 0, stream.streaming, stream.frame_size > 0);
         let (incoming, outgoing) = (stream.incoming.len(), stream.outgoing.len());
         let dequeued = stream.granted - incoming - outgoing;
+        let is_full = streaming && stream.run.accepted == RUN_LIMIT;
+        if streaming && self.random.below(AGES) == 0 {
+            return self.age(kind);
+        }
+        // Nothing more can come of a run at its limit but what it holds, which a careful one hands over.
+        if is_full && self.manner != Manner::Careful && self.random.chance(15) {
+            return self.stop(kind);
+        }
         if self.manner == Manner::Careful && streaming {
             return self.careful_step(kind, incoming, outgoing, dequeued);
         }
@@ -219,6 +236,18 @@ impl Generator {
             5 => self.request(kind, DQBUF),
             6 => self.stop(kind),
             _ => self.any_step(),
+        }
+    }
+
+    /// The run of a stream grows old, and now and then that of the other one with it.
+    fn age(&mut self, kind: u32) {
+        let both = self.random.chance(30);
+        for one in STREAMS.into_iter().filter(|one| both || *one == kind) {
+            let Some(now) = self.device.accepted(one) else { continue };
+            let age = ages::age(&mut self.random, one, now);
+            if age.accepted > now {
+                self.add(Step::Age(age));
+            }
         }
     }
 

@@ -74,6 +74,12 @@ pub struct Run {
     pub handed_over: u64,
 }
 
+/// The number of an arrival before which the run accepted so many: it has 32 bits, and the count goes on.
+#[inline]
+fn number_after(accepted: u64) -> u32 {
+    (accepted % (1 << 32)) as u32
+}
+
 pub struct Stream {
     /// The buffer type that names it.
     pub kind: u32,
@@ -196,11 +202,11 @@ impl Stream {
         if !self.streaming {
             return plain(IGNORED);
         }
-        if self.run.accepted == RUN_LIMIT {
+        if self.run.accepted >= RUN_LIMIT {
             return refused(EOVERFLOW);
         }
         // Every arrival of the run takes a number, damaged and dropped ones too.
-        let number = self.run.accepted as u32;
+        let number = number_after(self.run.accepted);
         self.run.accepted += 1;
         if !(0..=999_999).contains(&microseconds) || !is_whole(frame) {
             return plain(DAMAGED);

@@ -24,8 +24,8 @@ use sheet::Sheet;
 /// The longest memory of a stream.
 pub const LONGEST_MEMORY: u64 = 1 << 30;
 
-/// A run takes this many arrivals and no more.
-pub const RUN_LIMIT: u64 = u32::MAX as u64;
+/// A run takes this many arrivals and no more: 2^63 - 1.
+pub const RUN_LIMIT: u64 = i64::MAX as u64;
 
 /// A device; one that is closed holds nothing.
 pub struct Device {

@@ -12,7 +12,8 @@ use Rattle.format_rules.specs.Size.{roundUp, bytesPerLine, heldHeight, firstPla
 use Rattle.stream_slots.specs.Slot.{slotSize}
 use Rattle.stream_run.specs.Switches.{grantOf, requestBuffersOf as bufferRequest, startOf, stopOf}
 use Rattle.stream_run.specs.Stream.{freshStream, started, stopped}
-use Rattle.stream_words.specs.Moves.{emptied}
+use Rattle.stream_words.specs.Moves.{emptied, filledOldest}
+use Rattle.stream_arrival.specs.Arrivals.{placedOf, acceptedOf, arrivalOf}
 use Rattle.sheet_copy.specs.Copy.{keptOf}
 use Rattle.sheet_contents.specs.Contents.{formatsAt, formatAt}
 use Rattle.sheet_records.specs.Records.{formatCode}
@@ -65,7 +66,7 @@ abbrev table : List Figure
 table = figuresOf (openingState (keptOf benchSheet) benchMemory captionMemory) (openingState (keptOf oddSheet) benchMemory captionMemory)
 
 computed : map (λ f. f .got) table ≡ map (λ f. f .expected) table
-unfolding figuresOf any first apart firstUnbeaten sizesOf walkSizes offered offersAmong chosenCode askedFormat pictureWords formatReply sFmtOf tryFmtOf halfAt askedServices sServicesOf tab anyBelow has setOf offeredAt capabilityLines common fittingAt negotiatedLines unionOf countBelow ioSize keptOf knownWords callOf requestOf openingState openingFormat openingValues defaultValues freshStream emptied requestAnswer reqbufsOf streamonOf streamoffOf bufferRequest startOf started stopOf stopped deviceVerdict verdictOf verdictAfter formatCode formatAt formatsAt heightsOf grantOf benchSheet wordAt le32 bytesOf signed bits signedAt above geometryAt controlsAt controlCount controlAt controlId controlKind limitsOf controlFlags controlFields rangeAt widthsOf lineAlignment rectAt cropBounds cropDefault nearestMultiple nearestUpTo nearestSize nearestValue bytesPerPixel halfChroma roundUp bytesPerLine heldHeight firstPlane imageSize slotSize planesOf componentOf componentLength planeLength planeStart negotiated minZ maxZ clampZ sizeIn clampedPlace evenDown fieldsApart widthIn heightIn leftIn clampedTop topIn clamped openingCrop distance oddSheet pixelAspect cropReply cropCapabilityReply askedCrop cropcapOf gCropOf sCropOf firstFrom firstBelow present placeOf rangedAt settingAt settingOf sCtrlOf valueReply
+unfolding figuresOf arrivalOf acceptedOf placedOf filledOldest any first apart firstUnbeaten sizesOf walkSizes offered offersAmong chosenCode askedFormat pictureWords formatReply sFmtOf tryFmtOf halfAt askedServices sServicesOf tab anyBelow has setOf offeredAt capabilityLines common fittingAt negotiatedLines unionOf countBelow ioSize keptOf knownWords callOf requestOf openingState openingFormat openingValues defaultValues freshStream emptied requestAnswer reqbufsOf streamonOf streamoffOf bufferRequest startOf started stopOf stopped deviceVerdict verdictOf verdictAfter formatCode formatAt formatsAt heightsOf grantOf benchSheet wordAt le32 bytesOf signed bits signedAt above geometryAt controlsAt controlCount controlAt controlId controlKind limitsOf controlFlags controlFields rangeAt widthsOf lineAlignment rectAt cropBounds cropDefault nearestMultiple nearestUpTo nearestSize nearestValue bytesPerPixel halfChroma roundUp bytesPerLine heldHeight firstPlane imageSize slotSize planesOf componentOf componentLength planeLength planeStart negotiated minZ maxZ clampZ sizeIn clampedPlace evenDown fieldsApart widthIn heightIn leftIn clampedTop topIn clamped openingCrop distance oddSheet pixelAspect cropReply cropCapabilityReply askedCrop cropcapOf gCropOf sCropOf firstFrom firstBelow present placeOf rangedAt settingAt settingOf sCtrlOf valueReply
 computed = refl
 
 returns : tie.Need-returns

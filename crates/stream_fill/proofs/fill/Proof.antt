@@ -85,7 +85,7 @@ returns-2 c =
     let long : length (a .s .now) ≡ 208 = search needs in
     let b = c .before .before .before .before .as-bits in
     let d = c .before .before .as-bits2 in
-    fill-words (a .s .now) long _ _ (a .number) (a .used) (b .result) (d .result) (a .time) (search needs) (search needs) (search needs)
+    fill-words (a .s .now) long _ _ (a .number) (a .used) (b .result) (d .result) (a .time) (search needs) (search needs) (search needs) (search needs)
     (time-back (a .time) (b .result) (d .result) (c .before .before .before .before .before .struct-told .given .0 .1) (b .ensures) (c .before .before .before .struct-told2 .given .1 .0 .1) (d .ensures))
     (e .before .before .holding .ensures) (omega (arith, e .lined .ensures)) (c .before .before .before .before .before .before .place .ensures)
 

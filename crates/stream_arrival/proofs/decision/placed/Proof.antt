@@ -40,14 +40,11 @@ returns c =
 fill-requires : tie.Need-fill-requires
 fill-requires c κs = search needs
 
-low-requires : tie.Need-low-requires
-low-requires c κs = search needs
-
 returns-2 : tie.Need-returns-2
 unfolding placedOf
 returns-2 c =
-    let l = c .before .before .before .before in
-    simp (sym (l .before .before .oldest-incoming .ensures), l .k .given .1, c .low .ensures, c .before .fill .ensures)
+    let l = c .before .before .before in
+    simp (sym (l .before .before .oldest-incoming .ensures), l .k .given .1, c .fill .ensures)
 
 pub placed-spec : {M : Type 1} → statement M
 placed-spec =
@@ -61,5 +58,4 @@ placed-spec =
     element-write-s
     returns
     fill-requires
-    low-requires
     returns-2)

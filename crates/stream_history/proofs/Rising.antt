@@ -1,4 +1,4 @@
--- The numbers of the arrivals handed over in a run rise, and if there are as many as were accepted they are all of them.
+-- The places of the arrivals handed over in a run rise, and if there are as many as were accepted they are all of them.
 use mathlib.Core.Path.{_≡_, refl, sym, ap, _∙_, subst}
 use mathlib.Core.Bool.{Bool, true, false, cond}
 use Prim.Native.Nat.{ℕ, zero, suc, _+_, _≤_, _<_}
@@ -7,7 +7,7 @@ use native.Mathlib.Numerals.{add-one}
 use mathlib.Core.List.{List, [], _∷_, _++_, map, append-assoc, append-nil, head-eq-of-cons-eq, tail-eq-of-cons-eq}
 use lib.ListN.{length, length-append}
 use Rattle.stream_run.specs.Stream.{stoppedRun}
-use Rattle.stream_history.specs.Paper.{Frame, Pair, Paper, Event, blank, frameOf, rest, filled, step, noted, numberOf, first, given, handedOver, numbersBelow}
+use Rattle.stream_history.specs.Paper.{Frame, Pair, Paper, Event, blank, frameOf, rest, filled, step, noted, placeInRun, first, given, handedOver, numbersBelow}
 use Rattle.stream_history.specs.Paper.Event.{put, whole, damaged, handed, begun, ended, sized, idle}
 use Rattle.stream_history.proofs.Lists.{map-snoc}
 use Rattle.stream_history.proofs.Sound.{Sound, Fits, sound-step}
@@ -60,10 +60,10 @@ rising-part (suc n) l m (Either.right (k, e, r)) = go (last-of l m k n e) (risin
     go (Either.left h) again = right (k, sym (append-nil l) ∙ sym (ap (λ (x : List ℕ). l ++ x) h) ∙ e, r)
     go (Either.right (j, h)) again = left (again j (subst (λ (x : List ℕ). Rising x n) h r))
 
--- What the numbers handed over keep.
+-- What the places handed over keep.
 pub record Ordered (p : Paper) (l : List ℕ) : Type 0 where
   pub many : length l ≡ p .run .handed
-  pub rises : Rising (l ++ map numberOf (p .outgoing)) (p .run .accepted)
+  pub rises : Rising (l ++ map placeInRun (p .outgoing)) (p .run .accepted)
 
 skip : (l : List ℕ) (n : ℕ) → Rising l n → Rising l (n + 1)
 unfolding Rising
@@ -73,31 +73,31 @@ pick : (l : List ℕ) (n : ℕ) → Rising l n → Rising (l ++ (n ∷ [])) (n +
 unfolding Rising
 pick l n r = subst (Rising (l ++ (n ∷ []))) (sym (add-one n)) (right (l, refl, r))
 
-rises-filled : (l : List ℕ) (i : List ℕ) (f : Frame) (o : List Pair) → Rising (l ++ map numberOf o) (f .number) → Rising (l ++ map numberOf (filled i f o)) (f .number + 1)
-rises-filled l [] f o r = skip (l ++ map numberOf o) (f .number) r
+rises-filled : (l : List ℕ) (i : List ℕ) (f : Frame) (o : List Pair) → Rising (l ++ map placeInRun o) (f .place) → Rising (l ++ map placeInRun (filled i f o)) (f .place + 1)
+rises-filled l [] f o r = skip (l ++ map placeInRun o) (f .place) r
 rises-filled l (k ∷ i) f o r =
-    subst (λ (x : List ℕ). Rising x (f .number + 1))
-    (append-assoc l (map numberOf o) (f .number ∷ []) ∙ sym (ap (λ (x : List ℕ). l ++ x) (map-snoc numberOf o (record { index = k; frame = f }))))
-    (pick (l ++ map numberOf o) (f .number) r)
+    subst (λ (x : List ℕ). Rising x (f .place + 1))
+    (append-assoc l (map placeInRun o) (f .place ∷ []) ∙ sym (ap (λ (x : List ℕ). l ++ x) (map-snoc placeInRun o (record { index = k; frame = f }))))
+    (pick (l ++ map placeInRun o) (f .place) r)
 
-ordered-handed : (l : List ℕ) (o : List Pair) (h n : ℕ) → 0 < length o → length l ≡ h → Rising (l ++ map numberOf o) n
-    → (length (l ++ map numberOf (first o)) ≡ h + 1) × Rising ((l ++ map numberOf (first o)) ++ map numberOf (rest o)) n
+ordered-handed : (l : List ℕ) (o : List Pair) (h n : ℕ) → 0 < length o → length l ≡ h → Rising (l ++ map placeInRun o) n
+    → (length (l ++ map placeInRun (first o)) ≡ h + 1) × Rising ((l ++ map placeInRun (first o)) ++ map placeInRun (rest o)) n
 ordered-handed l [] h n s e r = absurd (omega arith)
 ordered-handed l (x ∷ o) h n s e r =
-    (omega (arith, length-append l (x .frame .number ∷ []), e), subst (λ (y : List ℕ). Rising y n) (sym (append-assoc l (x .frame .number ∷ []) (map numberOf o))) r)
+    (omega (arith, length-append l (x .frame .place ∷ []), e), subst (λ (y : List ℕ). Rising y n) (sym (append-assoc l (x .frame .place ∷ []) (map placeInRun o))) r)
 
 ordered-step : (p : Paper) (l : List ℕ) (e : Event) → Sound p → Fits p e → Ordered p l → Ordered (step p e) (given p l e)
 unfolding Rising
 ordered-step p l (put k) s f o = record { many = o .many; rises = o .rises }
 ordered-step p l (whole b t) s f o = record { many = o .many; rises = rises-filled l (p .incoming) (frameOf p b t) (p .outgoing) (o .rises) }
-ordered-step p l damaged s f o = record { many = o .many; rises = skip (l ++ map numberOf (p .outgoing)) (p .run .accepted) (o .rises) }
+ordered-step p l damaged s f o = record { many = o .many; rises = skip (l ++ map placeInRun (p .outgoing)) (p .run .accepted) (o .rises) }
 ordered-step p l handed s f o =
     let (x, y) = ordered-handed l (p .outgoing) (p .run .handed) (p .run .accepted) f (o .many) (o .rises) in record { many = x; rises = y }
-ordered-step p l begun s f o = record { many = refl; rises = ap (map numberOf) (s .none f) }
+ordered-step p l begun s f o = record { many = refl; rises = ap (map placeInRun) (s .none f) }
 ordered-step p l (ended n) s f o = go (p .running)
   where
     stays : Rising (l ++ []) (p .run .accepted)
-    stays = subst (λ (x : List ℕ). Rising x (p .run .accepted)) (sym (append-nil l)) (rising-part (p .run .accepted) l (map numberOf (p .outgoing)) (o .rises))
+    stays = subst (λ (x : List ℕ). Rising x (p .run .accepted)) (sym (append-nil l)) (rising-part (p .run .accepted) l (map placeInRun (p .outgoing)) (o .rises))
 
     go : (x : Bool) → Ordered (record { size = p .size; granted = n; running = false; run = cond x (stoppedRun (p .run) (length (p .outgoing))) (p .run); incoming = []; outgoing = [] }) l
     go true = record { many = o .many; rises = stays }
@@ -116,4 +116,4 @@ ordered-blank size = record { many = refl; rises = refl }
 
 -- as many handed over as were accepted: all of them, in their order
 pub all-handed : (p : Paper) (l : List ℕ) → Ordered p l → p .run .handed ≡ p .run .accepted → l ≡ numbersBelow (p .run .accepted)
-all-handed p l o e = rising-all (p .run .accepted) l (rising-part (p .run .accepted) l (map numberOf (p .outgoing)) (o .rises)) (o .many ∙ e)
+all-handed p l o e = rising-all (p .run .accepted) l (rising-part (p .run .accepted) l (map placeInRun (p .outgoing)) (o .rises)) (o .many ∙ e)

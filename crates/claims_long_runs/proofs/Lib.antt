@@ -1,0 +1,4 @@
+pub mod Devices
+pub mod Films
+pub mod Late
+pub mod Rounds
