@@ -1,12 +1,12 @@
--- The history equation and the places of buffers, after every list of calls on a device.
-use mathlib.Core.Path.{_≡_, refl, sym, ap, _∙_}
+-- The history equation, the numbers and the places of buffers, after every list of calls on a device.
+use mathlib.Core.Path.{_≡_, refl, sym, ap, _∙_, subst}
 use Prim.Native.Nat.{ℕ, _+_, _*_, _≤_}
 use native.Mathlib.Omega.{arith}
 use mathlib.Core.List.{List}
 use lib.ListN.{length}
 use Rattle.wire_read.specs.Lists.{any}
 use Rattle.stream_words.specs.Moves.{emptied, isIncoming, isOutgoing, standingOf}
-use Rattle.stream_run.specs.Stream.{freshStream}
+use Rattle.stream_run.specs.Stream.{Numbered, freshStream}
 use Rattle.stream_arrival.specs.Arrivals.{runLimit}
 use Rattle.stream_status.specs.Buffer.{flagsFor}
 use Rattle.device_state.specs.State.{State}
@@ -27,6 +27,11 @@ closed-run : (k : Kind) → streamOf k closedState .run ≡ blank 0 .run
 unfolding closedState freshStream
 closed-run Kind.pictures = refl
 closed-run Kind.captions = refl
+
+closed-number : (k : Kind) → Numbered (streamOf k closedState)
+unfolding closedState freshStream
+closed-number Kind.pictures = refl
+closed-number Kind.captions = refl
 
 closed-flags : (k : Kind) (i : ℕ) → flagsFor (standingOf (streamOf k closedState .queues) i) ≡ 0
 unfolding closedState freshStream emptied standingOf isIncoming isOutgoing any
@@ -58,6 +63,14 @@ module _ (s : List ℕ) (m : Kind → List ℕ) (k : Kind) (cs : List Call) wher
       go : Begun s m → paperAfter s m k cs .run .accepted ≤ runLimit
       go (Begun.safe x) = safe-after k cs (opened s m) (blank (openingSize s k)) (x k) .kept .sound .limit
       go (Begun.shut x) = rw (closed-at s m k x cs .1) (omega arith)
+
+  -- the number that a stream of the device keeps is its count reduced
+  pub number-kept : Numbered (streamOf k (boxAfter s m cs .state))
+  number-kept = go (begins s m)
+    where
+      go : Begun s m → Numbered (streamOf k (boxAfter s m cs .state))
+      go (Begun.safe x) = safe-after k cs (opened s m) (blank (openingSize s k)) (x k) .kept .tied .number
+      go (Begun.shut x) = subst (λ (d : State). Numbered (streamOf k d)) (sym (closed-at s m k x cs .0)) (closed-number k)
 
   -- every buffer is in at most one of the two queues, no other index is in any, and the flags say in which
   pub one-place : (i : ℕ)
