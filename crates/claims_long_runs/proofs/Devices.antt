@@ -22,8 +22,8 @@ use Rattle.claims_shut_out.specs.Calls.{dark, white, line21}
 use Rattle.claims_shut_out.specs.Faults.{Out}
 use Rattle.claims_shut_out.specs.Wrong.{ours, Wrong}
 use Rattle.claims_long_runs.specs.Films.{begun, comes, torn, takes, gives, stops, repeated, film}
-use Rattle.claims_long_runs.specs.Late.{Misnumbered, FullTooSoon, FullTooLate, LossOverlooked, numbered, fullAt, judged, saturating, wrapsEarly, oldLimit, oneLess, endless, judgedReduced, LateDevices}
-use Rattle.claims_long_runs.proofs.Rounds.{inRun, At, after-stops, at-first}
+use Rattle.claims_long_runs.specs.Late.{Misnumbered, FullTooSoon, FullTooLate, LossOverlooked, Miscounted, numbered, fullAt, judged, saturating, wrapsEarly, oldLimit, oneLess, endless, judgedReduced, shortCounts, LateDevices}
+use Rattle.claims_long_runs.proofs.Rounds.{inRun, At, after-comes, after-stops, at-first}
 use Rattle.claims_long_runs.proofs.Films.{rounds, tears, filmed, some-lost, long-films}
 use Rattle.claims_long_runs.proofs.Late.{late-faults}
 
@@ -150,6 +150,27 @@ overlooks =
       λ e. omega (arith, e, ap (λ (r : Run). r .handed) run, ap (λ (r : Run). r .accepted) run),
     )
 
+-- the arrival with which the count comes to 2 ^ 32
+counts-short : Miscounted shortCounts
+counts-short =
+    let cs : List Call = film Kind.pictures 4294967295 in
+    let e : At S one Kind.pictures cs 4294967295 4294967295 0 = filmed S one answers counts Kind.pictures 4294967295 (omega arith) in
+    let more-one : S .counts Kind.pictures (more cs (comes Kind.pictures)) .accepted ≡ 4294967296 =
+    ap (λ (r : Run). r .accepted) (counts Kind.pictures .counted (more cs (comes Kind.pictures)))
+    ∙ ap (λ (p : Paper). p .run .accepted) (after-comes S one Kind.pictures cs 4294967295 4294967295 0 e (omega arith)) in (
+      benchSheet,
+      dark,
+      Kind.pictures,
+      cs,
+      white,
+      0,
+      0,
+      dark Kind.pictures,
+      counts Kind.pictures .running cs .1 (ap (λ (p : Paper). p .running) (e .paper)),
+      ap arrivalNumber (long-films ours device-meets Kind.pictures .1 .last),
+      λ z. omega (arith, z, more-one, accepted Kind.pictures 4294967295 (omega arith)),
+    )
+
 wrong : {Fault : Machine → Type 0} → Out Fault → (M : Machine) → Fault M → Wrong Fault M
 wrong out M fault = (fault, out M fault)
 
@@ -161,4 +182,5 @@ late-devices = record {
   one-less = wrong (late-faults .full-too-soon) oneLess one-less;
   endless = wrong (late-faults .full-too-late) endless has-no-end;
   judged-reduced = wrong (late-faults .loss-overlooked) judgedReduced overlooks;
+  short-counts = wrong (late-faults .miscounted) shortCounts counts-short;
 }

@@ -1,7 +1,7 @@
 -- The faults of long runs, refuted.
 use mathlib.Core.Path.{_≡_, refl, sym, ap, ap₂, _∙_}
 use mathlib.Core.Bool.{Bool, true, false, cond, not, _&&_}
-use Prim.Native.Nat.{ℕ, _≤_}
+use Prim.Native.Nat.{ℕ, _+_, _≤_}
 use native.Mathlib.Omega.{arith}
 use mathlib.Core.List.{List, [], _∷_}
 use lib.Dec.{eqb, leb}
@@ -14,16 +14,18 @@ use Rattle.stream_run.specs.Stream.{reduced}
 use Rattle.stream_arrival.specs.declared.Arrival.{Arrival}
 use Rattle.stream_arrival.specs.declared.Arrival.the-variants.{Refused, Ignored, Damaged, Dropped, Stored}
 use Rattle.stream_arrival.specs.Arrivals.{runLimit}
-use Rattle.stream_history.specs.Paper.{Paper}
+use Rattle.stream_history.specs.Paper.{Paper, step}
+use Rattle.stream_history.specs.Paper.Event.{whole, damaged, idle}
 use Rattle.claims.specs.Calls.{Kind, typeOf, Call, arrivalTime}
-use Rattle.claims.specs.Machine.{Session}
-use Rattle.claims.specs.Words.{paperIn}
+use Rattle.claims.specs.Calls.Call.{arrival}
+use Rattle.claims.specs.Machine.{Session, more}
+use Rattle.claims.specs.Words.{arrivalTold, told, seenIn, paperIn}
 use Rattle.claims.specs.Desk.{deskIn}
 use Rattle.claims.specs.Table.{Check, check, kindOf, noStream, refusedBy, placedOn, wholeOn, arrivedOn, arrivalNumber}
 use Rattle.claims.specs.Demands.{Demand1}
-use Rattle.claims.proofs.Sessions.{arrived-number}
+use Rattle.claims.proofs.Sessions.{paper-more, told-arrival, arrived-number}
 use Rattle.claims_shut_out.specs.Faults.{Out}
-use Rattle.claims_long_runs.specs.Late.{Misnumbered, FullTooSoon, FullTooLate, LossOverlooked, LateFaults}
+use Rattle.claims_long_runs.specs.Late.{Misnumbered, FullTooSoon, FullTooLate, LossOverlooked, Miscounted, LateFaults}
 
 -- the number of a stored arrival, n for any other
 abbrev numberOr : ℕ → Arrival → ℕ
@@ -151,5 +153,30 @@ loss-overlooked M (s, m, k, cs, e, h) meets =
     let counted : M s m .counts k cs ≡ paperIn s (M s m) k cs .run = meets .counts s m k .counted cs in
     h (ap (λ (r : Run). r .handed) counted ∙ meets .demand-3 s m k .complete cs .0 e .5 ∙ sym (ap (λ (r : Run). r .accepted) counted))
 
+-- an arrival that is accepted is whole or damaged, and counts
+counts-one : (k : Kind) (p : Paper) (services f : List ℕ) (x y : ℕ) → step p (arrivalTold k p services f x y) .run .accepted ≡ p .run .accepted + 1
+counts-one k p services f x y = go (wholeOn k (p .size) services f (arrivalTime x y))
+  where
+    go : (v : Bool) → step p (cond v (whole f (arrivalTime x y)) damaged) .run .accepted ≡ p .run .accepted + 1
+    go true = refl
+    go false = refl
+
+miscounted : Out Miscounted
+miscounted M (s, m, k, cs, f, x, y, other, on, e, h) meets =
+    let S : Session = M s m in
+    let c : Call = arrival (typeOf k) f x y other in
+    let p : Paper = paperIn s S k cs in
+    let running : p .running ≡ true = meets .counts s m k .running cs .0 on in
+    let tells : told k p c (seenIn s S cs c) ≡ arrivalTold k p (deskIn s S cs .services) f x y =
+    told-arrival s S k cs p f x y other e ∙ ap (λ (b : Bool). cond b (arrivalTold k p (deskIn s S cs .services) f x y) idle) running in
+    h (ap (λ (r : Run). r .accepted) (meets .counts s m k .counted (more cs c)) ∙ ap (λ (q : Paper). q .run .accepted) (paper-more s S k cs c ∙ ap (step p) tells)
+    ∙ counts-one k p (deskIn s S cs .services) f x y ∙ ap (λ (r : Run). r .accepted + 1) (sym (meets .counts s m k .counted cs)))
+
 pub late-faults : LateFaults
-late-faults = record { misnumbered = misnumbered; full-too-soon = full-too-soon; full-too-late = full-too-late; loss-overlooked = loss-overlooked }
+late-faults = record {
+  misnumbered = misnumbered;
+  full-too-soon = full-too-soon;
+  full-too-late = full-too-late;
+  loss-overlooked = loss-overlooked;
+  miscounted = miscounted;
+}

@@ -1,4 +1,5 @@
 pub mod Devices
 pub mod Films
 pub mod Late
+pub mod Once
 pub mod Rounds

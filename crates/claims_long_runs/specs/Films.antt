@@ -11,9 +11,11 @@ use Rattle.stream_arrival.specs.declared.Arrival.the-variants.{Refused, Stored}
 use Rattle.stream_arrival.specs.Arrivals.{runLimit}
 use Rattle.stream_verdict.specs.declared.Verdict.{Verdict}
 use Rattle.stream_verdict.specs.declared.Verdict.the-variants.{Gaps, Complete}
+use Rattle.stream_history.specs.Claims.{times}
 use Rattle.claims.specs.Calls.{Kind, typeOf, Call}
 use Rattle.claims.specs.Calls.Call.{request, arrival}
 use Rattle.claims.specs.Machine.{Session, Machine, more}
+use Rattle.claims.specs.Words.{paperIn, handedIn}
 use Rattle.claims_together.specs.Meets.{Meets}
 use Rattle.bench_sheet.specs.Bench.{benchSheet}
 use Rattle.claims_shut_out.specs.Calls.{dark, bufferOf, runOf, reqbufs, qbuf, streamon, white, sets, asks, hands, begins, line21}
@@ -98,6 +100,11 @@ pub record Edges (S : Session) (k : Kind) : Type 0 where
   -- 2 ^ 32 + 5 frames, all handed over; and one less, because the frame with 2 ^ 32 before it was lost
   pub all-there : verdictOn S k (film k 4294967301) ≡ Complete
   pub one-lost : verdictOn S k (lossy k 4294967296 4) ≡ Gaps
+
+-- where a film is COMPLETE, each arrival of the run was handed over, and once: whatever the calls were, and by its place in the run
+abbrev pub EachOnce : Type 0
+EachOnce = (M : Machine) → Meets M → (s : List ℕ) (m : Kind → List ℕ) (k : Kind) (cs : List Call) → M s m .verdict cs (typeOf k) ≡ Complete
+    → (n : ℕ) → n < paperIn s (M s m) k cs .run .accepted → times n (handedIn s (M s m) k cs) ≡ 1
 
 -- of every machine that meets the demands, and of each stream
 abbrev pub LongFilms : Type 0

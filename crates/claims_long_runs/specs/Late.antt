@@ -1,6 +1,6 @@
 -- Faults of the number, the limit and the verdict, said of any machine by what it gives back; and devices that have them, but only in a run that
 -- outlasts the number of a frame, each like ours but for one thing.
-use Prim.Native.Nat.{ℕ, _%_, _≤_, _<_, min}
+use Prim.Native.Nat.{ℕ, _+_, _%_, _≤_, _<_, min}
 use mathlib.Core.Path.{_≡_}
 use mathlib.Core.Logic.{_≢_}
 use mathlib.Core.Bool.{cond}
@@ -15,7 +15,8 @@ use Rattle.stream_arrival.specs.Arrivals.{runLimit}
 use Rattle.stream_verdict.specs.declared.Verdict.{Verdict}
 use Rattle.stream_verdict.specs.declared.Verdict.the-variants.{Running, Blank, Gaps, Complete}
 use Rattle.claims.specs.Calls.{Kind, typeOf, Call}
-use Rattle.claims.specs.Machine.{Machine}
+use Rattle.claims.specs.Calls.Call.{arrival}
+use Rattle.claims.specs.Machine.{Machine, more}
 use Rattle.claims.specs.Table.{kindOf, arrivalNumber}
 use Rattle.claims_shut_out.specs.Faults.{Out}
 use Rattle.claims_shut_out.specs.Wrong.{ours, withArrival, telling, Wrong}
@@ -41,11 +42,18 @@ module _ (M : Machine) where
   LossOverlooked = (s : List ℕ) × (m : Kind → List ℕ) × (k : Kind) × (cs : List Call)
       × (M s m .verdict cs (typeOf k) ≡ Complete) × (M s m .counts k cs .handed ≢ M s m .counts k cs .accepted)
 
+  -- some arrival that is taken in a run does not raise the count that is told by one
+  abbrev pub Miscounted : Type 0
+  Miscounted = (s : List ℕ) × (m : Kind → List ℕ) × (k : Kind) × (cs : List Call) × (f : List ℕ) × (x : ℕ) × (y : ℕ) × (other : List ℕ)
+      × (M s m .verdict cs (typeOf k) ≡ Running) × (arrivalNumber (M s m .arrival cs (typeOf k) f x y other) ≡ 0)
+      × (M s m .counts k (more cs (arrival (typeOf k) f x y other)) .accepted ≢ M s m .counts k cs .accepted + 1)
+
 pub record LateFaults : Type 0 where
   pub misnumbered : Out Misnumbered
   pub full-too-soon : Out FullTooSoon
   pub full-too-late : Out FullTooLate
   pub loss-overlooked : Out LossOverlooked
+  pub miscounted : Out Miscounted
 
 -- ---- devices that have them
 
@@ -103,6 +111,21 @@ judged Complete r = Complete
 abbrev pub judgedReduced : Machine
 judgedReduced s m = telling (ours s m) (ours s m .memory) (λ cs t. judged (ours s m .verdict cs t) (ours s m .counts (kindOf t) cs)) (ours s m .counts)
 
+-- counts of 32 bits are told
+abbrev pub shortRun : Run → Run
+shortRun r =
+    record {
+      ran = r .ran;
+      accepted = reduced (r .accepted);
+      handed = reduced (r .handed);
+      damaged = reduced (r .damaged);
+      dropped = reduced (r .dropped);
+      discarded = r .discarded;
+    }
+
+abbrev pub shortCounts : Machine
+shortCounts s m = telling (ours s m) (ours s m .memory) (ours s m .verdict) (λ k cs. shortRun (ours s m .counts k cs))
+
 pub record LateDevices : Type 0 where
   pub saturating : Wrong Misnumbered saturating
   pub wraps-early : Wrong Misnumbered wrapsEarly
@@ -110,3 +133,4 @@ pub record LateDevices : Type 0 where
   pub one-less : Wrong FullTooSoon oneLess
   pub endless : Wrong FullTooLate endless
   pub judged-reduced : Wrong LossOverlooked judgedReduced
+  pub short-counts : Wrong Miscounted shortCounts

@@ -1,5 +1,5 @@
 -- Every element of a list, no element twice, and what that says of lengths.
-use mathlib.Core.Path.{_≡_, refl, sym, ap, subst}
+use mathlib.Core.Path.{_≡_, refl, sym, ap, _∙_, subst}
 use mathlib.Core.Logic.{_≢_}
 use mathlib.Core.Bool.{Bool, true, false, cond, true≢false}
 use Prim.Native.Nat.{ℕ, zero, suc, _+_, _≤_, _<_}
@@ -9,6 +9,7 @@ use lib.Dec.{eqb}
 use mathlib.Core.List.{List, [], _∷_, _++_, map}
 use lib.ListN.{length}
 use Rattle.wire_read.specs.Lists.{any}
+use Rattle.stream_history.specs.Paper.{numbersBelow}
 use Rattle.stream_history.specs.Claims.{times}
 
 -- ---- every element
@@ -163,3 +164,16 @@ any-times k (x ∷ l) d = go (eqb x k) refl (any-times k l (d .1))
     go : (b : Bool) → eqb x k ≡ b → cond (any (λ x. eqb x k) l) 1 0 ≡ times k l → cond (cond b true (any (λ x. eqb x k) l)) 1 0 ≡ cond b 1 0 + times k l
     go true e h = omega (arith, times-none k l (subst (λ (m : ℕ). All (λ y. y ≢ m) l) (eqb-true x k e) (d .0)))
     go false e h = omega (arith, h)
+
+-- of the numbers below m none is m or more, and each stands there once
+none-from : (n m : ℕ) → m ≤ n → times n (numbersBelow m) ≡ 0
+none-from n zero h = refl
+none-from n (suc m) h = times-append n (numbersBelow m) (m ∷ []) ∙ rw (ne-eqb m n (λ e. omega (arith, h, e))) (omega (arith, none-from n m (omega (arith, h))))
+
+pub each-below : (n m : ℕ) → n < m → times n (numbersBelow m) ≡ 1
+each-below n zero h = absurd (omega (arith, h))
+each-below n (suc m) h = times-append n (numbersBelow m) (m ∷ []) ∙ go (eqb m n) refl (each-below n m)
+  where
+    go : (b : Bool) → eqb m n ≡ b → (n < m → times n (numbersBelow m) ≡ 1) → times n (numbersBelow m) + (cond b 1 0 + 0) ≡ 1
+    go true e again = omega (arith, none-from n m (omega (arith, eqb-true m n e)))
+    go false e again = omega (arith, again (omega (arith, h, eqb-false m n e)))
