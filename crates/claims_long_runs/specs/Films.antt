@@ -32,6 +32,7 @@ abbrev pub wholeFrame : Kind → List ℕ
 wholeFrame Kind.pictures = white
 wholeFrame Kind.captions = line21
 
+-- it arrives, and is lent the memory of its stream as it was left: what is named has that length
 abbrev pub comes : Kind → Call
 comes k = arrival (typeOf k) (wholeFrame k) 0 0 (dark k)
 
