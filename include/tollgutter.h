@@ -7,12 +7,13 @@
  *     0 done   11 EAGAIN   14 EFAULT   16 EBUSY   22 EINVAL   25 ENOTTY   34 ERANGE   75 EOVERFLOW
  *
  * 11 is DQBUF's alone and means "soon": a run is on, and a frame may arrive. Once the run is over, or before one has begun,
- * DQBUF gives 22. 25 is an unknown word; a closed device gives 22 to that too, as to everything. 75 is an arrival's alone: its
- * run has accepted 9,223,372,036,854,775,807 (2^63 - 1), as many as a run can. It takes no more; what is stored can still be
- * handed over, and the next run counts from 0.
+ * DQBUF gives 22. 25 is an unknown word; a closed device gives 22 to that too, as to everything. 75 says that a count is at
+ * its end. It is an arrival's, whose run has accepted 9,223,372,036,854,775,807 (2^63 - 1), as many as a run can: it takes
+ * no more; what is stored can still be handed over, and the next run counts from 0. And it is a map's, whose buffer has 255
+ * maps.
  *
  * A device has two streams, named by their buffer type: 1, pictures (video capture), and 6, caption lines (sliced VBI
- * capture). Each has its own buffers, queues, run, verdict and memory, and a call about one leaves the other as it was.
+ * capture). Each has its own buffers, maps, queues, run, verdict and memory; a call about one leaves the other as it was.
  * G_FMT, S_FMT, TRY_FMT, REQBUFS, QUERYBUF, QBUF, DQBUF, STREAMON and STREAMOFF take either type and answer with the one
  * asked; ENUM_FMT, CROPCAP, G_CROP and S_CROP take 1 alone, and the eighteenth word, G_SLICED_VBI_CAP (0xC0745645, 116
  * bytes, its type at 100), takes 6 alone. Any other type gives 22. QUERYCAP tells capabilities 0x04000041.
@@ -34,6 +35,13 @@
  * is zero, by service_lines (24 words of 16 bits from 6 on for the first field, 24 from 54 on for the second) for services
  * line by line. The answer has what is offered of them, and in io_size (at 104) 64 bytes for each line that carries
  * something; a slot is made for that many. At opening no service is negotiated, and without any REQBUFS grants 0.
+ *
+ * The buffers of a stream lie in its memory one after the other: that of index i from i times the slot on, and as long as a
+ * slot, which is the image size, or io_size, rounded up to a multiple of 4,096. QUERYBUF, QBUF and DQBUF tell the offset (at
+ * 52) and the length (at 56) of a buffer, and in its flags (at 12) the sum of 1 while it is mapped, 2 while it waits for a
+ * frame, and 4 while it holds one. While any buffer of a stream is mapped (see tg_map), REQBUFS of that stream gives 16 for
+ * every count, 0 too, after the tests of length, type and memory and before that for a run: a run goes on, and the buffers
+ * stay as they are. STREAMON and STREAMOFF leave maps alone.
  *
  * What the caller has to see to, since no proof reaches a C caller:
  *   - each pointer points to as many bytes as its length says (a length of 0 may come with any pointer that is
@@ -74,7 +82,7 @@ struct tg_setup {
 
 /* A stream: its buffers and its run. The buffers that a client has handed in and not got back stand in one line, the oldest
  * first. What is kept of the i-th of the line, from 0 on, stands at place (head + i) modulo 32 of the five arrays
- * index to microseconds; other places mean nothing. The first `holding` buffers of the line hold a frame and go out
+ * index to microseconds; other places of these mean nothing. The first `holding` buffers of the line hold a frame and go out
  * next; the others wait for one. A `lined` above 32 counts as 32, and a `holding` above `lined` as `lined`. */
 struct tg_stream {
     uint64_t length;           /* bytes of its memory, as told at opening */
@@ -96,7 +104,7 @@ struct tg_stream {
     uint64_t used[32];         /* the bytes of the frame */
     uint64_t seconds[32];      /* the frame's time: the 32 bits of the signed number, zeros above them */
     uint64_t microseconds[32]; /* likewise */
-    uint64_t maps[32];         /* not used: zero */
+    uint64_t maps[32];         /* of buffer i, at place i: how often it is mapped, up to 255 */
 };
 
 struct tg_device {
@@ -149,6 +157,17 @@ uint32_t tg_request(struct tg_device *d, uint32_t word, uint8_t *argument, size_
  * 9,223,372,036,854,775,807, any more are refused with 75. */
 struct tg_arrived tg_arrival(struct tg_device *d, uint32_t type, uint8_t *memory, size_t memory_length,
                              const uint8_t *frame, size_t frame_length, int32_t seconds, int32_t microseconds);
+
+/* Counts a map of a buffer, told by the type of its stream, and by its offset and length as QUERYBUF tells them. The library
+ * maps nothing: it only keeps count of what the driver of the box maps for a client, so that REQBUFS cannot give away memory
+ * that is still mapped. Who opens a device anew over this one forgets its maps. The numbers, in the order of the tests:
+ *   - 22: the device is closed, the type is not 1 or 6, or no buffer that the stream has lies there and is that long;
+ *   - 75: the buffer has 255 maps;
+ *   - 0: the buffer has one map more. The queues, the run, the verdict and the memory stay as they are. */
+uint32_t tg_map(struct tg_device *d, uint32_t type, uint32_t offset, uint32_t length);
+
+/* Takes one off that count: 22 for the same as above, or if the buffer has no map; else 0. */
+uint32_t tg_unmap(struct tg_device *d, uint32_t type, uint32_t offset, uint32_t length);
 
 /* Of the stream of this type: TG_RUNNING while streaming, else the verdict on its last run: TG_BLANK, TG_GAPS or
  * TG_COMPLETE. It goes by the counts of 64 bits, not by the numbers. Of another type: TG_BLANK. */

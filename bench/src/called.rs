@@ -4,11 +4,13 @@ use tollgutter_tests::packing::{Model, Packer};
 use tollgutter_tests::recorder::{Arrived, Recorder};
 use tollgutter_tests::{ffi, model};
 
-/// A device and its three calls that are measured.
+/// A device and its five calls that are measured.
 pub trait Called: Recorder {
     fn call_open(&mut self, sheet: &[u8], lengths: [u64; 2]) -> u32;
     fn call_request(&mut self, word: u32, argument: &mut [u8]) -> u32;
     fn call_arrival(&mut self, kind: u32, memory: &mut [u8], frame: &[u8], seconds: i32, microseconds: i32) -> Arrived;
+    fn call_map(&mut self, kind: u32, offset: u32, length: u32) -> u32;
+    fn call_unmap(&mut self, kind: u32, offset: u32, length: u32) -> u32;
 }
 
 // The library comes as an archive, so that its functions are called in any case.
@@ -27,6 +29,16 @@ impl Called for ffi::Device {
     fn call_arrival(&mut self, kind: u32, memory: &mut [u8], frame: &[u8], seconds: i32, microseconds: i32) -> Arrived {
         self.arrival(kind, memory, frame, seconds, microseconds)
     }
+
+    #[inline(always)]
+    fn call_map(&mut self, kind: u32, offset: u32, length: u32) -> u32 {
+        self.map(kind, offset, length)
+    }
+
+    #[inline(always)]
+    fn call_unmap(&mut self, kind: u32, offset: u32, length: u32) -> u32 {
+        self.unmap(kind, offset, length)
+    }
 }
 
 // Inlined into the loop of a batch, the model would be the model for one word only.
@@ -44,6 +56,16 @@ impl Called for model::Device {
     #[inline(always)]
     fn call_arrival(&mut self, kind: u32, memory: &mut [u8], frame: &[u8], seconds: i32, microseconds: i32) -> Arrived {
         rust_arrival(self, kind, memory, frame, seconds, microseconds)
+    }
+
+    #[inline(always)]
+    fn call_map(&mut self, kind: u32, offset: u32, length: u32) -> u32 {
+        rust_map(self, kind, offset, length)
+    }
+
+    #[inline(always)]
+    fn call_unmap(&mut self, kind: u32, offset: u32, length: u32) -> u32 {
+        rust_unmap(self, kind, offset, length)
     }
 }
 
@@ -67,6 +89,16 @@ fn rust_arrival(
     microseconds: i32,
 ) -> Arrived {
     device.arrival(kind, memory, frame, seconds, microseconds)
+}
+
+#[inline(never)]
+fn rust_map(device: &mut model::Device, kind: u32, offset: u32, length: u32) -> u32 {
+    device.map(kind, offset, length)
+}
+
+#[inline(never)]
+fn rust_unmap(device: &mut model::Device, kind: u32, offset: u32, length: u32) -> u32 {
+    device.unmap(kind, offset, length)
 }
 
 /// A packer and its two calls that are measured.

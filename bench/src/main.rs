@@ -9,6 +9,7 @@
 mod arrivals;
 mod called;
 mod count;
+mod maps;
 mod opening;
 mod packing;
 mod requests;
@@ -36,6 +37,7 @@ fn beside_rust() -> Vec<Table> {
         Table { name: "request, by buffers", other: "Rust", rows: requests::by_buffers() },
         Table { name: "request, by sizes", other: "Rust", rows: requests::by_sizes() },
         Table { name: "arrival decision, 8 buffers", other: "Rust", rows: arrivals::decisions() },
+        Table { name: "map, 8 buffers", other: "Rust", rows: maps::all() },
         Table { name: "opening", other: "Rust", rows: opening::all() },
         Table { name: "packing", other: "Rust", rows: packing::all() },
     ]

@@ -150,6 +150,8 @@ static void closed(void)
     expect("all zero: plane", 22, tg_plane(&zero, 0, 0).number);
     expect("all zero: arrival", 22, tg_arrival(&zero, PICTURES, memory, 0, frame, 0, 0, 0).number);
     expect("all zero: arrival of captions", 22, tg_arrival(&zero, CAPTIONS, lines, 0, frame, 0, 0, 0).number);
+    expect("all zero: map", 22, tg_map(&zero, PICTURES, 0, 4096));
+    expect("all zero: unmap of captions", 22, tg_unmap(&zero, CAPTIONS, 0, 4096));
     expect("bad sheet", 22, tg_open(&box.device, memory, sizeof memory, MEMORY, LINES));
     expect("bad sheet: sheet", 0, (uint64_t)memcmp(box.device.sheet, zero.sheet, sizeof zero.sheet));
     expect("bad sheet: ready", 0, box.device.setup.ready);
@@ -162,7 +164,6 @@ static void unused(void)
     const struct tg_stream *v = &box.device.video, *c = &box.device.captions;
     int i;
     for (i = 0; i < 3; i++) expect("spare", 0, v->spare[i] | c->spare[i]);
-    for (i = 0; i < 32; i++) expect("maps", 0, v->maps[i] | c->maps[i]);
 }
 
 /* A stream as it is after an opening. */
@@ -188,6 +189,7 @@ static void fresh(const struct tg_stream *s, uint64_t length)
         expect("used", 0, s->used[i]);
         expect("seconds", 0, s->seconds[i]);
         expect("microseconds", 0, s->microseconds[i]);
+        expect("maps", 0, s->maps[i]);
     }
 }
 
@@ -614,6 +616,64 @@ static void old_run(struct tg_stream *s, uint32_t type)
     expect("old run: STREAMOFF", 0, simple(STREAMOFF, type, 0, 0, 0, 0));
 }
 
+/* The flags that a call tells of the buffer that is mapped. */
+static void told(int call, uint32_t type, uint32_t flags)
+{
+    expect("mapped: call", 0, buffer_of(call, type, 1));
+    expect("mapped: index", 1, get(argument));
+    expect("mapped: flags", flags, get(argument + 12));
+}
+
+/* Maps that are refused, and change nothing. */
+static void not_mapped(const struct tg_stream *s, uint32_t type, uint32_t slot)
+{
+    struct tg_device before;
+    memcpy(&before, &box.device, sizeof before);
+    expect("map of type 2", 22, tg_map(&box.device, 2, slot, slot));
+    expect("map beside a slot", 22, tg_map(&box.device, type, slot + 1, slot));
+    expect("map of another length", 22, tg_map(&box.device, type, slot, slot - 1));
+    expect("map of what is not granted", 22, tg_map(&box.device, type, (uint32_t)s->granted * slot, slot));
+    expect("unmap of another length", 22, tg_unmap(&box.device, type, slot, slot + 1));
+    expect("unmap without a map", 22, tg_unmap(&box.device, type, slot, slot));
+    expect("refused maps: device", 0, (uint64_t)memcmp(&before, &box.device, sizeof before));
+}
+
+/* The second buffer of a stream is mapped as often as it can be, goes through a run, and stands in the way of REQBUFS until the
+ * last of its maps is taken off. */
+static void map(const struct tg_stream *s, uint32_t type, uint32_t slot)
+{
+    uint32_t i, granted = (uint32_t)s->granted;
+    not_mapped(s, type, slot);
+    told(QUERYBUF, type, 0);
+    for (i = 1; i <= 255; i++) {
+        expect("map", 0, tg_map(&box.device, type, slot, slot));
+        expect("maps", i, s->maps[1]);
+    }
+    expect("map once more", 75, tg_map(&box.device, type, slot, slot));
+    for (i = 0; i < 32; i++) expect("maps", i == 1 ? 255 : 0, s->maps[i]);
+    told(QUERYBUF, type, 1);
+    told(QBUF, type, 3);
+    expect("mapped: STREAMON", 0, simple(STREAMON, type, 0, 0, 0, 0));
+    expect("mapped: stored", 1, (type == PICTURES ? arrive(1, IMAGE, 0, 0) : lines_arrive(0, 0, 0)).buffer);
+    told(QUERYBUF, type, 5);
+    expect("mapped: REQBUFS 0 in a run", 16, simple(REQBUFS, 0, type, 1, 0, 0));
+    expect("mapped: verdict", TG_RUNNING, verdict(type));
+    told(DQBUF, type, 1);
+    expect("mapped: STREAMOFF", 0, simple(STREAMOFF, type, 0, 0, 0, 0));
+    expect("mapped: verdict", TG_COMPLETE, verdict(type));
+    for (i = 255; i > 0; i--) {
+        told(QUERYBUF, type, 1);
+        expect("mapped: REQBUFS 0", 16, simple(REQBUFS, 0, type, 1, 0, 0));
+        expect("mapped: REQBUFS", 16, simple(REQBUFS, granted, type, 1, 0, 0));
+        expect("mapped: granted", granted, s->granted);
+        expect("unmap", 0, tg_unmap(&box.device, type, slot, slot));
+        expect("maps", i - 1, s->maps[1]);
+    }
+    not_mapped(s, type, slot);
+    told(QUERYBUF, type, 0);
+    expect("unmapped: REQBUFS", 0, simple(REQBUFS, granted, type, 1, 0, 0));
+}
+
 /* What is lent to the packing, one byte in: the byte before and all that are behind stay as they were. */
 static uint8_t packed[1 + 1552 + 1], read_back[1 + 36 * RECORD + 1];
 
@@ -721,6 +781,8 @@ int main(void)
     other_types();
     old_run(&box.device.video, PICTURES);
     old_run(&box.device.captions, CAPTIONS);
+    map(&box.device.video, PICTURES, SLOT);
+    map(&box.device.captions, CAPTIONS, 4096);
     unused();
     outside_a_run();
     planes();

@@ -1,23 +1,23 @@
 //! Devices of any content: random bytes, or an opened device with some of its bytes changed. No history leads to them,
 //! so they are not compared with the model. They must be answered, within the numbers that exist, and a refused call
 //! must change nothing. Of an arrival more can be told: the limit goes by the count of a run and the number by the word that
-//! has the next one, whether or not the two agree.
+//! has the next one, whether or not the two agree. Of maps all can be told: they go by the word of each buffer.
 
 use crate::coverage::{Coverage, NUMBERS};
 use crate::ffi::{at, Device, DEVICE_SIZE};
 use crate::generate::{self, captions, sheets};
 use crate::guarded::Guarded;
-use crate::model::bytes::{half, word};
+use crate::model::bytes::{half, put, word};
 use crate::model::services::Lines;
-use crate::model::words::{size, G_FMT};
+use crate::model::words::{size, type_at, DQBUF, G_FMT, QBUF, QUERYBUF, REQBUFS};
 use crate::model::RUN_LIMIT;
 use crate::random::{self, Random};
 use crate::recorder::{Arrived, Recorder, BLANK, CAPTIONS, COMPLETE, IGNORED, PICTURES, REFUSED, STORED, STREAMS};
-use crate::session::{Arrival, Frame, Lent, Step};
+use crate::session::{Arrival, Change, Frame, Lent, Mapping, Step};
 use crate::show;
 
-/// Numbers for words of 64 bits: small, about 32, about 2^32, about 2^63 and about 2^64.
-pub const NUMBERS_64: [u64; 25] = [
+/// Numbers for words of 64 bits: small, about 32, about 255, about 2^32, about 2^63 and about 2^64.
+pub const NUMBERS_64: [u64; 28] = [
     0,
     1,
     2,
@@ -30,6 +30,9 @@ pub const NUMBERS_64: [u64; 25] = [
     33,
     63,
     64,
+    254,
+    255,
+    256,
     4096,
     1 << 31,
     (1 << 32) - 2,
@@ -50,6 +53,9 @@ pub const NUMBERS_32: [u32; 12] = [0, 1, 2, 31, 32, 33, 255, 4096, 0x7fff_ffff, 
 
 /// The same for sets of services: all offered, one, none, some that nothing offers.
 pub const NUMBERS_16: [u16; 8] = [0, 1, 0x400, 0x1000, 0x1001, 0x4000, 0x5401, u16::MAX];
+
+/// A map or unmap that a session makes many times over is made so often at most.
+const MOST_TIMES: u32 = 3;
 
 /// The memories that are lent: of the pictures, and of the captions.
 pub type Memories = [Guarded; 2];
@@ -85,7 +91,7 @@ fn one(seed: u64, coverage: &mut Coverage) -> Result<(), String> {
             spoiled(&mut device, step, &mut memories, &mut random, coverage)
                 .map_err(|fault| format!("{}: {fault}", show::step(step)))?;
         }
-        coverage.calls += u64::from(step.is_call());
+        coverage.calls += step.calls().min(MOST_TIMES.into());
     }
     Ok(())
 }
@@ -101,6 +107,8 @@ fn closed(device: &mut Device, step: &Step, memory: &mut [u8]) -> Result<(), Str
             arrived.number
         }
         Step::Plane { frame_length, plane } => device.plane(*frame_length, *plane).number,
+        Step::Map(mapping) => mapping.once(Change::Map, device),
+        Step::Unmap(mapping) => mapping.once(Change::Unmap, device),
     };
     let blank = STREAMS.iter().all(|kind| device.verdict(*kind) == BLANK);
     check(number == 22 && blank, "a device of zeros is not closed")?;
@@ -128,6 +136,8 @@ fn spoiled(
         Step::Request { word, argument } => coverage.request(*word, argument, request(device, *word, argument)?),
         Step::Arrival(one) => coverage.arrival(one.kind, arrival(device, memories, one, random)?),
         Step::Plane { frame_length, plane: index } => plane(device, *frame_length, *index)?,
+        Step::Map(mapping) => changes(device, Change::Map, mapping, random, coverage)?,
+        Step::Unmap(mapping) => changes(device, Change::Unmap, mapping, random, coverage)?,
         // The count alone: the next number stays what it was, and whether a run is on does not matter.
         Step::Age(age) => {
             if let Some(stream) = Device::stream(age.kind) {
@@ -179,6 +189,7 @@ fn content(random: &mut Random, lengths: [u64; 2]) -> Device {
         if random.chance(50) {
             make_line(random, &mut device, stream);
         }
+        make_maps(random, &mut device, stream);
         if opened {
             // Its memory counts as the one that is lent.
             device.put_word(stream + at::LENGTH, length);
@@ -206,6 +217,16 @@ fn make_line(random: &mut Random, device: &mut Device, stream: usize) {
     }
     for place in 0..32 {
         device.put_word(stream + at::INDEX + 8 * place, random.below(34) as u64);
+    }
+}
+
+/// Mostly no maps, so that buffers can be asked for, else some of them, or what the words held before.
+fn make_maps(random: &mut Random, device: &mut Device, stream: usize) {
+    let Some(share) = random.pick(&[None, Some(0), Some(0), Some(5), Some(50)]) else { return };
+    for index in 0..32 {
+        let some = [1, 2, 254, 255, 256, number(random)];
+        let count = if random.chance(share) { random.pick(&some) } else { 0 };
+        device.put_word(stream + at::MAPS + 8 * index, count);
     }
 }
 
@@ -269,7 +290,7 @@ fn kept(device: &Device) -> Vec<u8> {
 
 /// A request, with what holds of every request.
 pub fn request(device: &mut Device, word: u32, argument: &[u8]) -> Result<u32, String> {
-    let before = kept(device);
+    let before = device.clone();
     let mut lent = Guarded::default();
     lent.set(argument, argument.len());
     let number = device.request(word, lent.body_mut());
@@ -277,8 +298,89 @@ pub fn request(device: &mut Device, word: u32, argument: &[u8]) -> Result<u32, S
     check(lent.intact(), "a byte outside the argument changed")?;
     let write_only = word >> 30 == 1;
     check(!(number != 0 || write_only) || lent.body() == argument, "an argument changed that had to stay")?;
-    check(number == 0 || kept(device) == before, "a refusal changed the device")?;
+    check(number == 0 || device.bytes == before.bytes, "a refusal changed the device")?;
+    told_of_maps(&before, word, argument, number, lent.body())?;
     Ok(number)
+}
+
+/// The device before a request, its argument, and what it gave back. Buffers are refused with 16 while any word of a map is not
+/// zero, and in a run if some are asked for; the flag of a map is told by the word of that buffer.
+fn told_of_maps(before: &Device, request: u32, asked: &[u8], number: u32, answer: &[u8]) -> Result<(), String> {
+    let kind = type_at(request).filter(|_| asked.len() == size(request)).map(|at| word(asked, at));
+    let Some((maps, stream)) = kind.and_then(|kind| before.maps(kind).zip(Device::stream(kind))) else { return Ok(()) };
+    let is_open = word(&before.bytes, at::SETUP) != 0;
+    match request {
+        REQBUFS if is_open && word(asked, 8) == 1 => {
+            let in_run = before.word(stream + at::STREAMING) != 0 && word(asked, 0) > 0;
+            check((number == 16) == (in_run || maps != [0; 32]), "16, or none, that does not go by maps and run")
+        }
+        QUERYBUF | QBUF | DQBUF if number == 0 => {
+            let Some(count) = maps.get(word(answer, 0) as usize) else { return Ok(()) };
+            check(word(answer, 12) & 1 == u32::from(*count != 0), "a flag that does not go by the word of the buffer")
+        }
+        _ => Ok(()),
+    }
+}
+
+/// The slot of a stream, by the size of its frames as the device tells it; nothing if it is closed, or there is no such stream.
+fn slot(device: &Device, kind: u32) -> Option<u64> {
+    let mut format = vec![0; size(G_FMT)];
+    put(&mut format, 0, kind);
+    let is_told = device.clone().request(G_FMT, &mut format) == 0;
+    let frame_size = word(&format, if kind == PICTURES { 24 } else { 104 });
+    is_told.then(|| u64::from(frame_size).next_multiple_of(4096))
+}
+
+/// The slot of a buffer, as far as 32 bits can tell it.
+pub fn slot_of(device: &Device, kind: u32, index: u64) -> Mapping {
+    let slot = slot(device, kind).unwrap_or(4096);
+    Mapping { kind, offset: (index * slot) as u32, length: slot as u32, times: 1 }
+}
+
+/// Where the word stands of the buffer that has this offset and length, if there is one.
+fn map_word(device: &Device, mapping: &Mapping) -> Option<usize> {
+    let (slot, stream) = slot(device, mapping.kind).zip(Device::stream(mapping.kind))?;
+    let there = device.word(stream + at::GRANTED).min(32);
+    let is_at = |index: &u64| (index * slot, slot) == (mapping.offset.into(), mapping.length.into());
+    let index = (0..there).filter(|_| slot > 0).find(is_at)?;
+    Some(stream + at::MAPS + 8 * index as usize)
+}
+
+/// A map or unmap, by what holds of every one: the number goes by the word, and no other byte changes.
+pub fn change(device: &mut Device, change: Change, mapping: &Mapping) -> Result<u32, String> {
+    let mut expected = device.clone();
+    let number = match (change, map_word(device, mapping).map(|at| (at, device.word(at)))) {
+        (_, None) | (Change::Unmap, Some((_, 0))) => 22,
+        (Change::Map, Some((_, 255..))) => 75,
+        (Change::Map, Some((at, count))) => {
+            expected.put_word(at, count + 1);
+            0
+        }
+        (Change::Unmap, Some((at, count))) => {
+            expected.put_word(at, count - 1);
+            0
+        }
+    };
+    let got = mapping.once(change, device);
+    check(got == number, &format!("{change:?} gave {got} instead of {number}"))?;
+    check(device.bytes == expected.bytes, "another byte than that of the count changed")?;
+    Ok(number)
+}
+
+/// Maps or unmaps, mostly of a place that is a buffer's by what the device keeps.
+fn changes(
+    device: &mut Device,
+    to: Change,
+    mapping: &Mapping,
+    random: &mut Random,
+    coverage: &mut Coverage,
+) -> Result<(), String> {
+    let fitting = slot_of(device, mapping.kind, random.below(34) as u64);
+    let mapping = if random.chance(70) { &fitting } else { mapping };
+    for _ in 0..mapping.times.min(MOST_TIMES) {
+        coverage.change(to, mapping.kind, change(device, to, mapping)?);
+    }
+    Ok(())
 }
 
 /// A frame that a device of any content would take, if there is one that is not too long: it has any image size, and any

@@ -1,14 +1,17 @@
 //! How often each call gave each number, and which answers and verdicts were seen, for both streams apart.
 
 use crate::judge::{Judged, JUDGED};
+use crate::mapped::{Found, Mapped, MAPPED};
 use crate::model::bytes::word;
-use crate::model::words::{type_at, ALL, S_FMT, TRY_FMT};
+use crate::model::words::{type_at, ALL, DQBUF, QBUF, QUERYBUF, S_FMT, TRY_FMT};
 use crate::recorder::{Arrived, CAPTIONS, PICTURES, STREAMS};
+use crate::session::Change;
 use crate::tops::{Top, TOPS};
 use crate::walk::{Asked, ASKED};
 use std::fmt;
 
-/// The numbers that can be given back. 75 needs 2^63 - 1 accepted arrivals in one run: it comes since some runs are made old.
+/// The numbers that can be given back. 75 needs 255 maps of one buffer, or 2^63 - 1 accepted arrivals in one run: these come
+/// since some runs are made old.
 pub const NUMBERS: [u32; 8] = [0, 11, 14, 16, 22, 25, 34, 75];
 
 const ANSWERS: [&str; 5] = ["refused", "ignored", "damaged", "dropped", "stored"];
@@ -24,6 +27,21 @@ pub enum Aged {
 }
 
 const AGED: [&str; 3] = ["back to number 0", "COMPLETE", "GAPS"];
+
+/// The calls that tell the flags of a buffer, and the flags that each can tell.
+const FLAGS: [(u32, u32, &str); 10] = [
+    (QUERYBUF, 0, "QUERYBUF 0"),
+    (QUERYBUF, 1, "QUERYBUF 1"),
+    (QUERYBUF, 2, "QUERYBUF 2"),
+    (QUERYBUF, 3, "QUERYBUF 3"),
+    (QUERYBUF, 4, "QUERYBUF 4"),
+    (QUERYBUF, 5, "QUERYBUF 5"),
+    (QBUF, 2, "QBUF 2"),
+    (QBUF, 3, "QBUF 3"),
+    (DQBUF, 0, "DQBUF 0"),
+    (DQBUF, 1, "DQBUF 1"),
+];
+
 /// The calls that ask for sizes.
 const SIZING: [(u32, &str); 2] = [(S_FMT, "S_FMT"), (TRY_FMT, "TRY_FMT")];
 
@@ -73,6 +91,10 @@ struct Seen {
     answers: [u64; 5],
     verdicts: [u64; 4],
     aged: [u64; AGED.len()],
+    /// Maps and unmaps by the number given back, and what else is seen of them.
+    changes: [Row; 2],
+    mapped: [u64; MAPPED.len()],
+    flags: [u64; FLAGS.len()],
 }
 
 #[derive(Default, Clone)]
@@ -81,9 +103,10 @@ pub struct Coverage {
     pub sessions: u64,
     /// Pictures, with the calls that name no type, and captions.
     streams: [Seen; 2],
-    /// Requests and arrivals of a type that names no stream, or whose argument ends before the type.
+    /// Requests, arrivals and maps of a type that names no stream, or whose argument ends before the type.
     other_requests: Row,
     other_arrivals: Row,
+    other_changes: Row,
     unknown: Row,
     openings: Row,
     planes: Row,
@@ -194,10 +217,47 @@ impl Coverage {
         }
     }
 
-    /// The numbers given back to requests and arrivals, and the answers to arrivals, on one line.
+    /// A map or unmap, and the number given back.
+    pub fn change(&mut self, change: Change, kind: u32, number: u32) {
+        let row = match place(kind) {
+            Some(place) => &mut self.streams[place].changes[change as usize],
+            None => &mut self.other_changes,
+        };
+        Coverage::count(row, &mut self.strange, number);
+    }
+
+    /// The same, and what stood at its place.
+    pub fn found(&mut self, change: Change, kind: u32, found: Found, number: u32) {
+        self.change(change, kind, number);
+        if let Some(mapped) = Mapped::by(change, found) {
+            self.mapped(kind, mapped);
+        }
+    }
+
+    pub fn mapped(&mut self, kind: u32, mapped: Mapped) {
+        let Some(place) = place(kind) else { return };
+        for ((known, _), count) in MAPPED.iter().zip(&mut self.streams[place].mapped) {
+            *count += u64::from(*known == mapped);
+        }
+    }
+
+    /// The flags that an accepted call tells of a buffer.
+    pub fn flags(&mut self, word: u32, kind: u32, flags: u32) {
+        let column = FLAGS.iter().position(|(call, known, _)| (*call, *known) == (word, flags));
+        match (place(kind), column) {
+            (Some(place), Some(column)) => self.streams[place].flags[column] += 1,
+            _ => self.strange += 1,
+        }
+    }
+
+    /// The numbers given back to requests, arrivals and maps, and the answers to arrivals, on one line.
     pub fn in_short(&self) -> String {
-        let of_streams = self.streams.iter().flat_map(|seen| seen.requests.iter().chain([&seen.arrivals]));
-        let rows: Vec<&Row> = of_streams.chain([&self.unknown, &self.other_requests, &self.other_arrivals]).collect();
+        let of_stream = |seen| {
+            let Seen { requests, arrivals, changes, .. }: &Seen = seen;
+            requests.iter().chain([arrivals]).chain(changes)
+        };
+        let others = [&self.unknown, &self.other_requests, &self.other_arrivals, &self.other_changes];
+        let rows: Vec<&Row> = self.streams.iter().flat_map(of_stream).chain(others).collect();
         let numbers = NUMBERS.iter().enumerate();
         let numbers = numbers.map(|(column, number)| (number.to_string(), rows.iter().map(|row| row[column]).sum()));
         let sums = std::array::from_fn::<u64, 5, _>(|i| self.streams.iter().map(|seen| seen.answers[i]).sum());
@@ -223,9 +283,12 @@ impl Coverage {
                 rows.push((name.to_string(), row, expected));
             }
             rows.push((format!("{stream} arrive"), &seen.arrivals, &[0, 14, 22, 75]));
+            rows.push((format!("{stream} map"), &seen.changes[Change::Map as usize], &[0, 22, 75]));
+            rows.push((format!("{stream} unmap"), &seen.changes[Change::Unmap as usize], &[0, 22]));
         }
         rows.push(("other types".into(), &self.other_requests, &[14, 22]));
         rows.push(("- arrive".into(), &self.other_arrivals, &[22]));
+        rows.push(("- map, unmap".into(), &self.other_changes, &[22]));
         rows.push(("unknown word".into(), &self.unknown, &[22, 25]));
         rows.push(("opening".into(), &self.openings, &[0, 22]));
         rows.push(("plane".into(), &self.planes, &[0, 22]));
@@ -239,6 +302,9 @@ impl Coverage {
             lists.push((format!("{stream}, arrivals"), ANSWERS.into_iter().zip(seen.answers).collect()));
             lists.push((format!("{stream}, verdicts"), VERDICTS.into_iter().zip(seen.verdicts).collect()));
             lists.push((format!("{stream}, old runs"), AGED.into_iter().zip(seen.aged).collect()));
+            let mapped = MAPPED.iter().map(|(_, name)| *name).zip(seen.mapped).collect();
+            lists.push((format!("{stream}, maps"), mapped));
+            lists.push((format!("{stream}, flags"), FLAGS.iter().map(|(_, _, name)| *name).zip(seen.flags).collect()));
         }
         let judged = JUDGED.iter().map(|(_, name)| *name).zip(self.judged).collect();
         lists.push(("captions, frames of a run".into(), judged));

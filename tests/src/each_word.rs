@@ -1,7 +1,9 @@
 //! A device in the middle of a run of each stream whose words hold what no history leads to: each word by itself, the numbers
-//! of a line together, and the count of a run together with its next number. On each such device every call is made once.
+//! of a line together, the count of a run together with its next number, and maps together with what
+//! they go by. On each such device every call is made once.
 
-use crate::anything::{arrival, check, plane, request, verdicts, Memories, NUMBERS_16, NUMBERS_32, NUMBERS_64};
+use crate::anything::{arrival, change, check, plane, request, slot_of, verdicts, Memories};
+use crate::anything::{NUMBERS_16, NUMBERS_32, NUMBERS_64};
 use crate::ask::done;
 use crate::coverage::Coverage;
 use crate::draft::Draft;
@@ -12,13 +14,16 @@ use crate::model::words::*;
 use crate::model::RUN_LIMIT;
 use crate::random::Random;
 use crate::recorder::{Arrived, Recorder, CAPTIONS, PICTURES, REFUSED, STORED, STREAMS};
-use crate::session::{Arrival, Frame, Lent, Step};
+use crate::session::{Arrival, Change, Frame, Lent, Mapping, Step};
 use crate::show;
 
 const BUFFERS: usize = 8;
 const SMALLEST: usize = 4;
 const LOAD: [u32; 3] = [0x1000, 0, 21];
 const CONTRAST: u32 = 0x0098_0901;
+
+/// Where the image size of the format stands.
+const IMAGE_SIZE: usize = at::SETUP + 20;
 
 /// A frame that the stream of this place takes: the smallest picture, or the load line.
 fn frame(place: usize) -> Frame {
@@ -103,10 +108,27 @@ impl Bench {
                 self.coverage.arrival(kind, arrived);
             }
         }
+        self.every_change(device)?;
         for index in 0..4 {
             plane(device, SMALLEST, index)?;
         }
         verdicts(device)
+    }
+
+    /// Maps and unmaps of several buffers, by the slots of this device and by the least one.
+    fn every_change(&mut self, device: &Device) -> Result<(), String> {
+        for kind in [PICTURES, CAPTIONS, 2] {
+            let least = Mapping { kind, offset: 4096, length: 4096, times: 1 };
+            let slots = [0, 3, 7, 8, 31, 32].map(|index| slot_of(device, kind, index));
+            for mapping in slots.into_iter().chain([least]) {
+                for (one, step) in [(Change::Map, Step::Map(mapping)), (Change::Unmap, Step::Unmap(mapping))] {
+                    let number = change(&mut device.clone(), one, &mapping)
+                        .map_err(|fault| format!("{}: {fault}", show::step(&step)))?;
+                    self.coverage.change(one, kind, number);
+                }
+            }
+        }
+        Ok(())
     }
 
     /// A buffer goes through each line of this device, or is refused.
@@ -284,4 +306,24 @@ fn one_count(bench: &mut Bench, place: usize, accepted: u64, next: u64) -> Resul
     bench.same_answers(&device, &low)?;
     bench.two_arrivals(device.clone(), place, accepted, next as u32)?;
     bench.round(device)
+}
+
+/// The word of a buffer's maps, how many buffers are granted, and the image size hold many numbers together.
+pub fn each_map() -> Result<Coverage, String> {
+    let mut bench = Bench::new();
+    let counts = [0, 1, 254, 255, 256, (1 << 32) - 1, 1 << 32, u64::MAX];
+    let sizes = [0, 4, 4096, 4097, u32::MAX - 4095, u32::MAX - 4094, u32::MAX];
+    for (stream, index) in at::STREAMS.into_iter().flat_map(|stream| [0, 3, 7, 31].map(|index| (stream, index))) {
+        for (count, granted) in counts.iter().flat_map(|count| [0, 8, 31, 32, 33, u64::MAX].map(|all| (*count, all))) {
+            for size in sizes {
+                let mut device = bench.device.clone();
+                device.put_word(stream + at::MAPS + 8 * index, count);
+                device.put_word(stream + at::GRANTED, granted);
+                put(&mut device.bytes, IMAGE_SIZE, size);
+                let tried = bench.every_call(&device).and_then(|()| bench.round(device));
+                tried.map_err(|fault| format!("buffer {index} of {granted}, {count} maps, image {size}: {fault}"))?;
+            }
+        }
+    }
+    Ok(bench.coverage)
 }

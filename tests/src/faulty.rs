@@ -1,6 +1,7 @@
 //! Copies of the model with one fault each. The tests show that every one of them is found.
 
-use crate::model::buffers::{Place, Stream};
+use crate::generate::maps;
+use crate::model::buffers::{Place, Stream, MAPPED, MOST, MOST_MAPS};
 use crate::model::bytes::{half, put, put_half, put_signed, signed, word};
 use crate::model::control::NEXT;
 use crate::model::crop::Rectangle;
@@ -8,6 +9,7 @@ use crate::model::services::{Lines, RECORD, SERVICES};
 use crate::model::words::*;
 use crate::model::{Device, LONGEST_MEMORY, RUN_LIMIT};
 use crate::recorder::*;
+use crate::session::{Change, Mapping};
 
 #[derive(Clone, Copy, Debug, PartialEq)]
 pub enum Fault {
@@ -60,9 +62,27 @@ pub enum Fault {
     NumberStaysAtLast,
     NumberGoesBackEarly,
     VerdictByReducedCounts,
+    MapLimitOneHigher,
+    MapLimitOneLower,
+    MapIsAFlag,
+    MapLengthUnchecked,
+    MapOffsetRoundedDown,
+    MapOfNotGranted,
+    OtherTypeMaps,
+    CaptionMapToPictures,
+    UnmapOfNoneTaken,
+    FlagOfAnotherBuffer,
+    DequeueTellsNoMap,
+    NoneAskedWhileMapped,
+    FirstMapOnlyRefuses,
+    OtherMapRefuses,
+    MapBeforeMemory,
+    RefusedRequestStops,
+    StopUnmaps,
+    OpeningKeepsMaps,
 }
 
-pub const FAULTS: [Fault; 49] = [
+pub const FAULTS: [Fault; 67] = [
     Fault::NewestOutgoingFirst,
     Fault::VerdictConstant,
     Fault::FailedDequeueCounted,
@@ -112,6 +132,24 @@ pub const FAULTS: [Fault; 49] = [
     Fault::NumberStaysAtLast,
     Fault::NumberGoesBackEarly,
     Fault::VerdictByReducedCounts,
+    Fault::MapLimitOneHigher,
+    Fault::MapLimitOneLower,
+    Fault::MapIsAFlag,
+    Fault::MapLengthUnchecked,
+    Fault::MapOffsetRoundedDown,
+    Fault::MapOfNotGranted,
+    Fault::OtherTypeMaps,
+    Fault::CaptionMapToPictures,
+    Fault::UnmapOfNoneTaken,
+    Fault::FlagOfAnotherBuffer,
+    Fault::DequeueTellsNoMap,
+    Fault::NoneAskedWhileMapped,
+    Fault::FirstMapOnlyRefuses,
+    Fault::OtherMapRefuses,
+    Fault::MapBeforeMemory,
+    Fault::RefusedRequestStops,
+    Fault::StopUnmaps,
+    Fault::OpeningKeepsMaps,
 ];
 
 pub struct Faulty {
@@ -124,6 +162,29 @@ pub struct Faulty {
 /// The type that a request names; 1 if it names none.
 fn kind_of(request: u32, argument: &[u8]) -> u32 {
     type_at(request).map_or(PICTURES, |at| word(argument, at))
+}
+
+/// What a fault changes of a stream before REQBUFS.
+fn before_buffers(fault: Fault, request: u32, stream: &mut Stream, argument: &[u8]) {
+    if request != REQBUFS || word(argument, 8) != 1 {
+        return;
+    }
+    match fault {
+        Fault::NoneAskedWhileMapped if word(argument, 0) == 0 => stream.maps = [0; MOST],
+        Fault::FirstMapOnlyRefuses if stream.maps[0] == 0 => stream.maps = [0; MOST],
+        Fault::RefusedRequestStops if stream.is_mapped() => stream.stop(),
+        _ => {}
+    }
+}
+
+/// A place that begins where the slot of a buffer that was granted begins, and is as long.
+fn is_granted(stream: &Stream, place: &Mapping) -> bool {
+    (0..stream.granted).any(|index| maps::slot_of(stream, index) == *place)
+}
+
+/// The slot behind those of the buffers that were granted.
+fn is_next_slot(stream: &Stream, place: &Mapping) -> bool {
+    stream.slot() > 0 && maps::slot_of(stream, stream.granted) == *place
 }
 
 impl Faulty {
@@ -178,7 +239,8 @@ impl Faulty {
                 opened.captions.stop();
             }
             (Fault::CaptionBufferToPictures, QBUF) => put(argument, 4, PICTURES),
-            _ => {}
+            (Fault::StopUnmaps, STREAMOFF) => stream.maps = [0; MOST],
+            _ => before_buffers(self.fault, request, stream, argument),
         }
     }
 
@@ -192,6 +254,8 @@ impl Faulty {
             }
             (Fault::RefusalWritesArgument, _, 22) if argument.len() > 60 => argument[60] = 0,
             (Fault::ReservedNotZero, G_FMT, 0) => argument[203] = 1,
+            (Fault::FlagOfAnotherBuffer, QUERYBUF | QBUF | DQBUF, 0) => self.flag_of_the_next(kind, argument),
+            (Fault::DequeueTellsNoMap, DQBUF, 0) => put(argument, 12, 0),
             (_, S_CROP, 0) => self.after_crop(&Rectangle::read(argument, 4)),
             (_, _, 0) if kind == CAPTIONS => self.after_captions(request, argument),
             _ => {}
@@ -285,11 +349,15 @@ impl Faulty {
 impl Recorder for Faulty {
     fn open(&mut self, sheet: &[u8], [pictures, captions]: [u64; 2]) -> u32 {
         self.ever = Lines::default();
+        let maps = self.device.opened().map(|opened| [opened.pictures.maps, opened.captions.maps]);
         let unchecked = self.fault == Fault::CaptionLengthUnchecked;
         let number =
             self.device.open(sheet, [pictures, if unchecked { captions.min(LONGEST_MEMORY) } else { captions }]);
         if let Some(opened) = self.device.opened_mut().filter(|_| self.fault == Fault::OpeningTopNotRounded) {
             opened.crop = opened.sheet.default;
+        }
+        if let Some(opened) = self.device.opened_mut().filter(|_| self.fault == Fault::OpeningKeepsMaps) {
+            [opened.pictures.maps, opened.captions.maps] = maps.unwrap_or_default();
         }
         number
     }
@@ -303,6 +371,8 @@ impl Recorder for Faulty {
             Fault::UnknownAnswersInvalid if !known => return 22,
             Fault::StoppedAnswersSoon if self.stopped_with_buffers(request, argument) => return 11,
             Fault::CaptionsBusyByPictures if self.pictures_in_the_way(request, argument) => return 16,
+            Fault::OtherMapRefuses if self.other_map_in_the_way(request, argument) => return 16,
+            Fault::MapBeforeMemory if self.map_in_the_way(request, argument) => return 16,
             _ => {}
         }
         if self.fault == Fault::StopKeepsQueues && request == STREAMOFF {
@@ -396,6 +466,14 @@ impl Recorder for Faulty {
         self.device.plane(frame_length, plane)
     }
 
+    fn map(&mut self, kind: u32, offset: u32, length: u32) -> u32 {
+        self.change(Change::Map, Mapping { kind, offset, length, times: 1 })
+    }
+
+    fn unmap(&mut self, kind: u32, offset: u32, length: u32) -> u32 {
+        self.change(Change::Unmap, Mapping { kind, offset, length, times: 1 })
+    }
+
     fn age(&mut self, kind: u32, past: Past) {
         self.device.age(kind, past);
     }
@@ -417,6 +495,68 @@ impl Faulty {
         let captions = |stream: &Stream| stream.kind == CAPTIONS;
         let buffers = self.device.opened().is_some_and(|opened| opened.pictures.granted > 0);
         request == S_FMT && buffers && self.stream(request, argument).is_some_and(captions)
+    }
+
+    /// Buffers are asked for, in a well made request, while one of the other stream is mapped.
+    fn other_map_in_the_way(&self, request: u32, argument: &[u8]) -> bool {
+        let other = |stream: &Stream| if stream.kind == PICTURES { CAPTIONS } else { PICTURES };
+        let is_made = request == REQBUFS && argument.len() == size(REQBUFS) && word(argument, 8) == 1;
+        let stream = self.stream(request, argument).filter(|_| is_made);
+        stream.is_some_and(|stream| {
+            self.device.opened().and_then(|opened| opened.stream(other(stream))).is_some_and(Stream::is_mapped)
+        })
+    }
+
+    /// Buffers are asked for, of whatever memory, while one is mapped.
+    fn map_in_the_way(&self, request: u32, argument: &[u8]) -> bool {
+        request == REQBUFS && self.stream(request, argument).is_some_and(Stream::is_mapped)
+    }
+
+    /// A map or unmap, by what a fault takes it for.
+    fn change(&mut self, change: Change, asked: Mapping) -> u32 {
+        let Some(opened) = self.device.opened_mut() else { return 22 };
+        let mut taken = asked;
+        match self.fault {
+            Fault::OtherTypeMaps if !STREAMS.contains(&asked.kind) => taken.kind = PICTURES,
+            Fault::CaptionMapToPictures => taken.kind = PICTURES,
+            _ => {}
+        }
+        let Some(stream) = opened.stream_mut(taken.kind) else { return 22 };
+        let slot = stream.slot() as u32;
+        match self.fault {
+            Fault::MapLengthUnchecked => taken.length = slot,
+            Fault::MapOffsetRoundedDown if slot > 0 => taken.offset -= taken.offset % slot,
+            Fault::MapOfNotGranted if is_next_slot(stream, &taken) => return 0,
+            _ => {}
+        }
+        let number = taken.once(change, &mut self.device);
+        self.after_change(change, &taken, number)
+    }
+
+    /// What a fault makes of the number, and of the count behind it.
+    fn after_change(&mut self, change: Change, taken: &Mapping, number: u32) -> u32 {
+        let stream = self.device.opened_mut().and_then(|opened| opened.stream_mut(taken.kind));
+        let index = stream.as_ref().and_then(|stream| taken.offset.checked_div(stream.slot() as u32));
+        let Some((stream, index)) = stream.zip(index.map(|index| index as usize)) else { return number };
+        match (self.fault, change, number) {
+            (Fault::MapLimitOneHigher, Change::Map, 75) => return 0,
+            (Fault::MapLimitOneLower, Change::Map, 0) if stream.maps[index] == MOST_MAPS => {
+                stream.maps[index] -= 1;
+                return 75;
+            }
+            (Fault::MapIsAFlag, Change::Map, 0) => stream.maps[index] = 1,
+            (Fault::UnmapOfNoneTaken, Change::Unmap, 22) if is_granted(stream, taken) => return 0,
+            _ => {}
+        }
+        number
+    }
+
+    /// The flag that is told is that of the next buffer.
+    fn flag_of_the_next(&self, kind: u32, argument: &mut [u8]) {
+        let Some(stream) = self.device.opened().and_then(|opened| opened.stream(kind)) else { return };
+        let next = (word(argument, 0) as usize + 1) % stream.granted;
+        let flags = word(argument, 12) & !MAPPED;
+        put(argument, 12, if stream.maps[next] > 0 { flags | MAPPED } else { flags });
     }
 
     /// The run of a stream takes no more, by the limit that the fault gives it; the length of its memory comes first.

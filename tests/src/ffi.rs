@@ -2,7 +2,7 @@
 
 use crate::packing::Packer;
 use crate::random;
-use crate::recorder::{Arrived, Past, Plane, Recorder, STREAMS};
+use crate::recorder::{Arrived, Maps, Past, Plane, Recorder, STREAMS};
 
 /// The size of the C interface's device, in bytes. There is nothing between its fields or behind them.
 pub const DEVICE_SIZE: usize = 6280;
@@ -33,9 +33,10 @@ pub mod at {
     pub const HOLDING: usize = 80;
     pub const LINED: usize = 88;
     pub const NEXT_NUMBER: usize = 96;
-    /// Behind three spare words: six arrays of 32, the indices of the line first.
+    /// Behind three spare words: six arrays of 32, the indices of the line first, the map counts last.
     pub const INDEX: usize = 128;
-    pub const STREAM: usize = INDEX + 6 * 256;
+    pub const MAPS: usize = INDEX + 5 * 256;
+    pub const STREAM: usize = MAPS + 256;
 }
 
 const _: () = assert!(at::END == DEVICE_SIZE);
@@ -62,6 +63,8 @@ extern "C" {
     ) -> Arrived;
     fn tg_verdict(d: *const Device, kind: u32) -> u32;
     fn tg_plane(d: *const Device, frame_length: usize, plane: u32) -> Plane;
+    fn tg_map(d: *mut Device, kind: u32, offset: u32, length: u32) -> u32;
+    fn tg_unmap(d: *mut Device, kind: u32, offset: u32, length: u32) -> u32;
     fn tg_vbi_pack(lines: *const u8, lines_length: usize, block: *mut u8, block_length: usize) -> u32;
     fn tg_vbi_unpack(block: *const u8, block_length: usize, lines: *mut u8, lines_length: usize) -> u32;
     fn tg_vbi_block_length(lines: usize) -> usize;
@@ -123,6 +126,21 @@ impl Recorder for Device {
     fn plane(&self, frame_length: usize, plane: u32) -> Plane {
         // SAFETY: see above.
         unsafe { tg_plane(self, frame_length, plane) }
+    }
+
+    fn map(&mut self, kind: u32, offset: u32, length: u32) -> u32 {
+        // SAFETY: see above.
+        unsafe { tg_map(self, kind, offset, length) }
+    }
+
+    fn unmap(&mut self, kind: u32, offset: u32, length: u32) -> u32 {
+        // SAFETY: see above.
+        unsafe { tg_unmap(self, kind, offset, length) }
+    }
+
+    fn maps(&self, kind: u32) -> Option<Maps> {
+        let stream = Device::stream(kind)?;
+        Some(std::array::from_fn(|index| self.word(stream + at::MAPS + 8 * index)))
     }
 
     /// Each word goes on from what it holds, so that a device which miscounted before still does.

@@ -9,6 +9,7 @@ pub mod fields;
 pub mod generate;
 pub mod guarded;
 pub mod judge;
+pub mod mapped;
 pub mod model;
 pub mod packing;
 pub mod random;

@@ -44,6 +44,9 @@ impl Past {
     }
 }
 
+/// How often each buffer of a stream is mapped, in the order of the indices.
+pub type Maps = [u64; 32];
+
 /// Where a plane lies in a frame, or a refusal: 22, 0, 0.
 #[repr(C)]
 #[derive(Clone, Copy, Debug, PartialEq, Eq)]
@@ -62,6 +65,9 @@ pub trait Recorder {
     fn arrival(&mut self, kind: u32, memory: &mut [u8], frame: &[u8], seconds: i32, microseconds: i32) -> Arrived;
     fn verdict(&self, kind: u32) -> u32;
     fn plane(&self, frame_length: usize, plane: u32) -> Plane;
+    /// One map more, or one fewer, of the buffer with this offset and length in the memory of its stream.
+    fn map(&mut self, kind: u32, offset: u32, length: u32) -> u32;
+    fn unmap(&mut self, kind: u32, offset: u32, length: u32) -> u32;
 
     /// Adds arrivals to the run that is on in a stream, past all calls, since nobody can wait for so many.
     fn age(&mut self, kind: u32, past: Past);
@@ -74,6 +80,11 @@ pub trait Recorder {
     /// The counts of each run agree with each other and with the next number, as far as they can be seen.
     fn adds_up(&self) -> bool {
         true
+    }
+
+    /// The maps of a stream, if they can be seen.
+    fn maps(&self, _kind: u32) -> Option<Maps> {
+        None
     }
 
     /// Fills what the device is made of with bytes of this seed, before an opening; 0 stands for zero bytes.
@@ -109,6 +120,20 @@ impl Recorder for model::Device {
 
     fn plane(&self, frame_length: usize, plane: u32) -> Plane {
         model::Device::plane(self, frame_length, plane)
+    }
+
+    fn map(&mut self, kind: u32, offset: u32, length: u32) -> u32 {
+        model::Device::map(self, kind, offset, length)
+    }
+
+    fn unmap(&mut self, kind: u32, offset: u32, length: u32) -> u32 {
+        model::Device::unmap(self, kind, offset, length)
+    }
+
+    /// Of a closed device none.
+    fn maps(&self, kind: u32) -> Option<Maps> {
+        let stream = self.opened().and_then(|opened| opened.stream(kind));
+        Some(stream.map_or([0; 32], |stream| stream.maps.map(u64::from)))
     }
 
     fn age(&mut self, kind: u32, past: Past) {

@@ -5,13 +5,16 @@ use crate::coverage::{Aged, Coverage, Stream};
 use crate::fields;
 use crate::guarded::Guarded;
 use crate::judge::{judge, Judged};
+use crate::mapped::{Found, Mapped};
 use crate::model::bytes::{signed, word};
-use crate::model::words::{size, DQBUF, G_CROP, G_FMT, QUERYBUF, S_CROP, S_FMT, TRY_FMT};
+use crate::model::words::{
+    size, type_at, DQBUF, G_CROP, G_FMT, QBUF, QUERYBUF, REQBUFS, STREAMOFF, S_CROP, S_FMT, TRY_FMT,
+};
 use crate::random;
 use crate::recorder::{
     Recorder, BLANK, CAPTIONS, COMPLETE, DAMAGED, GAPS, IGNORED, PICTURES, REFUSED, RUNNING, STORED, STREAMS,
 };
-use crate::session::{made_length, Age, Arrival, Lent, Session, Step};
+use crate::session::{made_length, Age, Arrival, Change, Lent, Mapping, Session, Step};
 use crate::tops::Lines;
 use crate::walk::Grid;
 use std::fmt::Debug;
@@ -52,6 +55,9 @@ pub struct Runner {
     /// Of each stream: whether a run is on, and whether the last one grew old.
     running: [bool; 2],
     aged: [bool; 2],
+    /// Whether a buffer is mapped, and whether one was when the last run was stopped and none was mapped since.
+    mapped: [bool; 2],
+    stopped: [bool; 2],
     /// What the tested device kept before and after a call.
     before: Vec<u8>,
     after: Vec<u8>,
@@ -70,9 +76,9 @@ impl Runner {
         expected.scramble(before);
         tested.scramble(before);
         self.prepare_memories([0, 0], 0);
-        (self.running, self.aged) = Default::default();
+        (self.running, self.aged, self.mapped, self.stopped) = Default::default();
         for (place, step) in session.steps.iter().enumerate() {
-            coverage.calls += u64::from(step.is_call());
+            coverage.calls += step.calls();
             self.step(place, step, expected, tested, coverage)
                 .and_then(|()| self.probe(place, expected, tested, coverage))
                 .map_err(|difference| Difference { step: place, ..difference })?;
@@ -94,9 +100,10 @@ impl Runner {
             Step::Open { sheet, lengths } => {
                 let number = self.opening(place, sheet, *lengths, expected, tested)?;
                 coverage.opening(number);
+                self.forgotten(coverage);
                 self.prepare_memories(lengths.map(made_length), sheet.len() as u64);
                 self.ever = vec![0; size(S_FMT)];
-                (self.running, self.aged) = Default::default();
+                (self.running, self.aged, self.stopped) = Default::default();
                 if number == 0 {
                     self.grids = Grid::both(sheet);
                     self.lines = Lines::of(sheet);
@@ -107,6 +114,7 @@ impl Runner {
                 let waiting = dequeued_from(expected, *word, argument);
                 let number = self.request(place, *word, argument, expected, tested)?;
                 coverage.request(*word, argument, number);
+                self.seen_of_maps(*word, argument, number, coverage);
                 if *word == S_FMT && number == 0 && argument[0] == CAPTIONS as u8 {
                     let answer = self.expected.argument.body();
                     self.ever.iter_mut().zip(answer).for_each(|(ever, now)| *ever |= now);
@@ -130,10 +138,73 @@ impl Runner {
                 coverage.plane(answer.number);
                 same("plane", &answer, &tested.plane(*frame_length, *plane))
             }
+            Step::Map(mapping) => self.change(Change::Map, mapping, expected, tested, coverage),
+            Step::Unmap(mapping) => self.change(Change::Unmap, mapping, expected, tested, coverage),
             Step::Age(age) => {
                 self.age(age, expected, tested);
                 Ok(())
             }
+        }
+    }
+
+    /// Maps or unmaps, as often as is told.
+    fn change<E: Recorder, T: Recorder>(
+        &mut self,
+        change: Change,
+        mapping: &Mapping,
+        expected: &mut E,
+        tested: &mut T,
+        coverage: &mut Coverage,
+    ) -> Result<(), Difference> {
+        for _ in 0..mapping.times {
+            let found = Found::by(expected, mapping);
+            tested.content(&mut self.before);
+            let number = mapping.once(change, expected);
+            coverage.found(change, mapping.kind, found, number);
+            same("number", &number, &mapping.once(change, tested))?;
+            same(&format!("a number that goes with {found:?}"), &true, &found.numbers(change).contains(&number))?;
+            if number != 0 {
+                self.unchanged(tested)?;
+            } else if let (Change::Map, Some(place)) = (change, place_of(mapping.kind)) {
+                self.stopped[place] = false;
+            }
+        }
+        Ok(())
+    }
+
+    /// An opening over a device with maps.
+    fn forgotten(&self, coverage: &mut Coverage) {
+        for (kind, _) in STREAMS.into_iter().zip(self.mapped).filter(|(_, mapped)| *mapped) {
+            coverage.mapped(kind, Mapped::Forgotten);
+        }
+    }
+
+    /// What a request shows of maps, by those that there were before it and by its answer.
+    fn seen_of_maps(&mut self, request: u32, argument: &[u8], number: u32, coverage: &mut Coverage) {
+        let named = type_at(request).filter(|_| argument.len() == size(request)).map(|at| word(argument, at));
+        let Some((kind, place)) = named.and_then(|kind| Some((kind, place_of(kind)?))) else { return };
+        let (mapped, running) = (self.mapped[place], self.running[place]);
+        match (request, number) {
+            (REQBUFS, 16) if mapped => match (word(argument, 0), running) {
+                (0, false) => coverage.mapped(kind, Mapped::NoneRefused),
+                (0, true) => coverage.mapped(kind, Mapped::RunGoesOn),
+                (_, false) => coverage.mapped(kind, Mapped::SomeRefused),
+                (_, true) => {}
+            },
+            (REQBUFS, 22) if mapped => coverage.mapped(kind, Mapped::OtherMemory),
+            (REQBUFS, 0) if self.mapped[1 - place] => coverage.mapped(kind, Mapped::OtherMapped),
+            (STREAMOFF, 0) if mapped && running => {
+                coverage.mapped(kind, Mapped::Stopped);
+                self.stopped[place] = true;
+            }
+            (QUERYBUF | QBUF | DQBUF, 0) => {
+                let flags = word(self.expected.argument.body(), 12);
+                coverage.flags(request, kind, flags);
+                if flags & 1 != 0 && self.stopped[place] {
+                    coverage.mapped(kind, Mapped::ToldAfterStop);
+                }
+            }
+            _ => {}
         }
     }
 
@@ -262,6 +333,9 @@ impl Runner {
         if answer.answer == STORED && answer.number == 0 && accepted > 0 {
             coverage.aged(kind, Aged::BackToZero);
         }
+        if answer.answer == STORED && expected.maps(kind).is_some_and(|maps| maps[answer.buffer as usize] > 0) {
+            coverage.mapped(kind, Mapped::Stored);
+        }
         same("answer to the arrival", &answer, &got)?;
         same_bytes(name, left.body(), right.body()).map_err(|(_, found)| found)?;
         intact(name, right)?;
@@ -296,7 +370,7 @@ impl Runner {
         }
     }
 
-    /// The verdicts and a plane after every step, all planes after every eighth.
+    /// The verdicts, the maps as far as they can be seen, and a plane after every step, all planes after every eighth.
     fn probe<E: Recorder, T: Recorder>(
         &mut self,
         place: usize,
@@ -309,6 +383,10 @@ impl Runner {
             coverage.verdict(kind, verdict);
             self.old_run(stream, verdict, coverage);
             same(&format!("verdict of type {kind}"), &verdict, &tested.verdict(kind))?;
+            if let Some(maps) = expected.maps(kind) {
+                self.mapped[stream] = maps.iter().any(|count| *count > 0);
+                same(&format!("maps of type {kind}"), &maps, &tested.maps(kind).unwrap_or(maps))?;
+            }
         }
         same("counts and next numbers that add up", &true, &tested.adds_up())?;
         let other = OTHER_TYPES[place % OTHER_TYPES.len()];
@@ -325,6 +403,11 @@ impl Runner {
 }
 
 const MEMORIES: [&str; 2] = ["picture memory", "caption memory"];
+
+/// The place of the stream that a type names.
+fn place_of(kind: u32) -> Option<usize> {
+    STREAMS.iter().position(|known| *known == kind)
+}
 
 /// Types that name no stream: their verdict is BLANK.
 const OTHER_TYPES: [u32; 8] = [0, 2, 5, 7, 0x0100_0001, 0x0000_0106, 0x8000_0006, u32::MAX];

@@ -2,7 +2,7 @@
 
 use crate::model::services::RECORD;
 use crate::random;
-use crate::recorder::{Past, STREAMS};
+use crate::recorder::{Past, Recorder, STREAMS};
 
 /// Longer memories are not made: such a device is opened, but lent an empty memory.
 pub const LONGEST_MADE: u64 = 4 << 20;
@@ -16,20 +16,54 @@ pub struct Session {
     pub steps: Vec<Step>,
 }
 
-/// A call, or a run that grows old without one. The lengths at an opening are those of the picture memory and of the caption
-/// memory.
+/// A call, one call many times over, or a run that grows old without one. The lengths at an opening are those of the
+/// picture memory and of the caption memory.
 #[derive(Clone)]
 pub enum Step {
     Open { sheet: Vec<u8>, lengths: [u64; 2] },
     Request { word: u32, argument: Vec<u8> },
     Arrival(Arrival),
     Plane { frame_length: usize, plane: u32 },
+    Map(Mapping),
+    Unmap(Mapping),
     Age(Age),
 }
 
 impl Step {
-    pub fn is_call(&self) -> bool {
-        !matches!(self, Step::Age(_))
+    /// How many calls it makes.
+    pub fn calls(&self) -> u64 {
+        match self {
+            Step::Age(_) => 0,
+            Step::Map(mapping) | Step::Unmap(mapping) => mapping.times.into(),
+            _ => 1,
+        }
+    }
+}
+
+/// What is mapped or unmapped, so many times over: one step, so that a session can come to the limit and still be short.
+#[derive(Clone, Copy, PartialEq)]
+pub struct Mapping {
+    /// The buffer type that names the stream.
+    pub kind: u32,
+    pub offset: u32,
+    pub length: u32,
+    pub times: u32,
+}
+
+/// The two calls about maps.
+#[derive(Clone, Copy, Debug, PartialEq)]
+pub enum Change {
+    Map,
+    Unmap,
+}
+
+impl Mapping {
+    /// One of its calls: the number given back.
+    pub fn once<R: Recorder>(&self, change: Change, device: &mut R) -> u32 {
+        match change {
+            Change::Map => device.map(self.kind, self.offset, self.length),
+            Change::Unmap => device.unmap(self.kind, self.offset, self.length),
+        }
     }
 }
 

@@ -5,7 +5,7 @@ use crate::model::sheet;
 use crate::model::words::{self, *};
 use crate::recorder::CAPTIONS;
 use crate::runner::{hex, Difference};
-use crate::session::{Age, Arrival, Lent, Session, Step};
+use crate::session::{Age, Arrival, Lent, Mapping, Session, Step};
 
 /// How a field is written.
 #[derive(Clone, Copy)]
@@ -154,6 +154,16 @@ fn arrival(arrival: &Arrival) -> String {
     text
 }
 
+/// The bytes that are mapped or unmapped.
+fn mapping(call: &str, mapping: &Mapping) -> String {
+    let Mapping { kind, offset, length, times } = mapping;
+    let text = format!("{call} of type {kind}, offset {offset}, length {length}");
+    match times {
+        1 => text,
+        _ => format!("{text}, {times} times"),
+    }
+}
+
 /// The count that a run comes to without a call.
 fn age(age: &Age) -> String {
     let Age { kind, accepted, damaged, dropped } = age;
@@ -166,6 +176,8 @@ pub fn step(step: &Step) -> String {
         Step::Open { sheet, lengths } => opening(sheet, *lengths),
         Step::Request { word, argument } => request(*word, argument),
         Step::Arrival(one) => arrival(one),
+        Step::Map(one) => mapping("map", one),
+        Step::Unmap(one) => mapping("unmap", one),
         Step::Age(one) => age(one),
         Step::Plane { frame_length, plane } => format!("plane {plane} of a frame of {frame_length} bytes"),
     }

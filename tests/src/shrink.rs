@@ -89,6 +89,7 @@ impl<F: FnMut(&Session) -> Option<Difference>> Shrinker<F> {
                 Step::Arrival(_) => self.simplify_arrival(place) | self.drop_records(place),
                 Step::Open { .. } => self.simplify_opening(place),
                 Step::Plane { .. } => false,
+                Step::Map(_) | Step::Unmap(_) => self.map_less_often(place),
                 Step::Age(age) => self.simplify_age(place, age) | self.age_further(place),
             };
             place += 1;
@@ -168,6 +169,26 @@ impl<F: FnMut(&Session) -> Option<Difference>> Shrinker<F> {
             });
             simpler |= dropped;
             at += usize::from(!dropped);
+        }
+        simpler
+    }
+
+    /// Once, or half as often, or one time less.
+    fn map_less_often(&mut self, place: usize) -> bool {
+        let mut simpler = false;
+        while let Some(Step::Map(now) | Step::Unmap(now)) = self.best.steps.get(place).cloned() {
+            let fewer = [1, now.times / 2, now.times - 1].into_iter().filter(|times| (1..now.times).contains(times));
+            let mut shorter = fewer.map(|times| {
+                self.consider_step(place, |step| {
+                    if let Step::Map(mapping) | Step::Unmap(mapping) = step {
+                        mapping.times = times;
+                    }
+                })
+            });
+            if !shorter.any(|shorter| shorter) {
+                break;
+            }
+            simpler = true;
         }
         simpler
     }

@@ -2,7 +2,7 @@
 
 use crate::model::Device;
 use crate::recorder::{Recorder, STREAMS};
-use crate::session::{made_length, Lent, Session, Step};
+use crate::session::{made_length, Change, Lent, Mapping, Session, Step};
 use crate::show;
 
 /// One text for each step: the step, the answer, and the verdicts after it.
@@ -31,6 +31,8 @@ pub fn trace(session: &Session) -> Vec<String> {
                 let (frame, time) = (arrival.frame.bytes(), (arrival.seconds, arrival.microseconds));
                 format!("{:?}", device.arrival(arrival.kind, lent, &frame, time.0, time.1))
             }
+            Step::Map(mapping) => numbers(&mut device, mapping, Change::Map),
+            Step::Unmap(mapping) => numbers(&mut device, mapping, Change::Unmap),
             Step::Age(age) => match device.accepted(age.kind) {
                 None => "none, since no run is on".into(),
                 Some(now) => {
@@ -45,4 +47,11 @@ pub fn trace(session: &Session) -> Vec<String> {
         texts.push(format!("{}\n        answer {answer}, then {verdicts}", show::step(step)));
     }
     texts
+}
+
+/// The numbers of one call made many times over, each told once if it comes again right after.
+fn numbers(device: &mut Device, mapping: &Mapping, change: Change) -> String {
+    let mut numbers: Vec<u32> = (0..mapping.times).map(|_| mapping.once(change, device)).collect();
+    numbers.dedup();
+    numbers.iter().map(u32::to_string).collect::<Vec<_>>().join(" and then ")
 }

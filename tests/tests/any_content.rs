@@ -20,3 +20,9 @@ fn every_line_is_answered_as_the_one_it_counts_as() {
     let seen = each_word::each_line().unwrap_or_else(|fault| panic!("{fault}"));
     println!("{}", seen.in_short());
 }
+
+#[test]
+fn maps_go_by_the_word_of_each_buffer() {
+    let seen = each_word::each_map().unwrap_or_else(|fault| panic!("{fault}"));
+    println!("{}", seen.in_short());
+}

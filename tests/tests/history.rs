@@ -1,5 +1,6 @@
 //! What can be told from the calls alone. For each stream two queues are kept on paper, as the requirements describe them,
-//! and every stored frame, every dequeue, refused or not, the verdict and the sum of a run's arrivals are held against them.
+//! and every stored frame, every dequeue, refused or not, the verdict and the sum of a run's arrivals are held against them; and
+//! for each buffer its maps are counted, against which every map and unmap, the flags, and each request for buffers are held.
 //! A stream's paper knows that stream's calls and no others. Nothing here looks into a device, so the model is tested as
 //! strictly as the library.
 
@@ -10,7 +11,7 @@ use tollgutter_tests::model::bytes::{signed, word};
 use tollgutter_tests::model::words::*;
 use tollgutter_tests::model::Device;
 use tollgutter_tests::recorder::*;
-use tollgutter_tests::session::{made_length, Arrival, Lent, Step};
+use tollgutter_tests::session::{made_length, Arrival, Change, Lent, Mapping, Step};
 use tollgutter_tests::{generate, random};
 
 const SESSIONS: u64 = 3000;
@@ -32,12 +33,16 @@ struct Found {
 #[derive(Default)]
 struct Paper {
     kind: u32,
+    /// Whether the last opening was accepted.
+    opened: bool,
     /// What the last accepted S_FMT answered, or opening set: 204 bytes, zeros if there are no services.
     format: Vec<u8>,
     incoming: VecDeque<u32>,
     outgoing: VecDeque<Found>,
     streaming: bool,
     buffers: u32,
+    /// Accepted maps less accepted unmaps of each buffer, since the buffers were granted.
+    maps: Vec<u32>,
     accepted: u64,
     handed_over: u64,
     damaged: u64,
@@ -46,8 +51,8 @@ struct Paper {
 }
 
 impl Paper {
-    fn new(kind: u32, format: Vec<u8>) -> Paper {
-        Paper { kind, format, ..Paper::default() }
+    fn new(kind: u32, opened: bool, format: Vec<u8>) -> Paper {
+        Paper { kind, opened, format, ..Paper::default() }
     }
 
     /// The image size, or the io size.
@@ -81,8 +86,10 @@ impl Paper {
 
     /// A request about this stream, with its argument before and after.
     fn told(&mut self, request: u32, before: &[u8], number: u32, after: &[u8], memory: &[u8]) {
-        if request == DQBUF {
-            self.waits(before, number);
+        match request {
+            DQBUF => self.waits(before, number),
+            REQBUFS => self.asked(before, number),
+            _ => {}
         }
         if number == 0 {
             self.request(request, before, after, memory);
@@ -99,9 +106,13 @@ impl Paper {
             REQBUFS => {
                 self.stop();
                 self.buffers = word(after, 0);
+                self.maps = vec![0; self.buffers as usize];
             }
             DQBUF => self.dequeue(after, memory),
             _ => {}
+        }
+        if matches!(request, QUERYBUF | QBUF | DQBUF) {
+            assert_eq!(word(after, 12), self.flags(word(after, 0)));
         }
         // The answer names the stream that was asked.
         assert!(type_at(request).is_none_or(|at| word(after, at) == self.kind));
@@ -116,6 +127,46 @@ impl Paper {
         } else if word(argument, 48) == 1 {
             assert!(matches!(number, 0 | 11));
         }
+    }
+
+    /// A request for buffers gives 16 while a buffer is mapped, whatever the count, and in a run, unless the count is 0.
+    fn asked(&self, argument: &[u8], number: u32) {
+        let mapped = self.maps.iter().any(|count| *count > 0);
+        let busy = mapped || self.streaming && word(argument, 0) > 0;
+        let expected = match busy {
+            _ if !self.opened || word(argument, 8) != 1 => 22,
+            true => 16,
+            false => 0,
+        };
+        assert_eq!(number, expected);
+    }
+
+    /// What is told of a buffer: in which queue it is, and whether it is mapped.
+    fn flags(&self, index: u32) -> u32 {
+        let incoming = self.incoming.contains(&index);
+        let outgoing = self.outgoing.iter().any(|found| found.index == index);
+        u32::from(self.maps[index as usize] > 0) + 2 * u32::from(incoming) + 4 * u32::from(outgoing)
+    }
+
+    /// The buffer whose slot this is, by the frame size that the stream told and the buffers that it granted.
+    fn buffer_at(&self, mapping: &Mapping) -> Option<usize> {
+        let slot = self.frame_size().next_multiple_of(4096);
+        (0..self.maps.len()).find(|index| (mapping.offset as usize, mapping.length as usize) == (index * slot, slot))
+    }
+
+    /// A map or unmap, and the number given back.
+    fn changed(&mut self, change: Change, mapping: &Mapping, number: u32) {
+        let Some(count) = self.buffer_at(mapping).map(|index| &mut self.maps[index]) else {
+            return assert_eq!(number, 22, "no buffer stands there");
+        };
+        let (expected, after) = match (change, *count) {
+            (Change::Map, 255) => (75, 255),
+            (Change::Map, before) => (0, before + 1),
+            (Change::Unmap, 0) => (22, 0),
+            (Change::Unmap, before) => (0, before - 1),
+        };
+        assert_eq!(number, expected);
+        *count = after;
     }
 
     fn dequeue(&mut self, answer: &[u8], memory: &[u8]) {
@@ -182,16 +233,16 @@ fn place_of(request: u32, argument: &[u8]) -> Option<usize> {
 }
 
 fn session<R: Recorder>(device: &mut R, seed: u64) {
-    let mut papers = STREAMS.map(|kind| Paper::new(kind, vec![0; 204]));
+    let mut papers = STREAMS.map(|kind| Paper::new(kind, false, vec![0; 204]));
     let mut memories = [Vec::new(), Vec::new()];
     device.scramble(0);
     for step in generate::session(seed).steps {
         match &step {
             Step::Open { sheet, lengths } => {
-                device.open(sheet, *lengths);
+                let opened = device.open(sheet, *lengths) == 0;
                 memories = lengths.map(|length| vec![0; made_length(length)]);
                 let format = ask(device, G_FMT, &[(0, PICTURES)]).1;
-                papers = [Paper::new(PICTURES, format), Paper::new(CAPTIONS, vec![0; 204])];
+                papers = [Paper::new(PICTURES, opened, format), Paper::new(CAPTIONS, opened, vec![0; 204])];
             }
             Step::Request { word, argument } => {
                 let mut after = argument.clone();
@@ -208,6 +259,8 @@ fn session<R: Recorder>(device: &mut R, seed: u64) {
                 }
             }
             Step::Plane { .. } => {}
+            Step::Map(mapping) => change(device, &mut papers, Change::Map, mapping),
+            Step::Unmap(mapping) => change(device, &mut papers, Change::Unmap, mapping),
             Step::Age(age) => {
                 for paper in papers.iter_mut().filter(|paper| paper.kind == age.kind && paper.streaming) {
                     let past = age.past(paper.accepted);
@@ -218,6 +271,17 @@ fn session<R: Recorder>(device: &mut R, seed: u64) {
         }
         for paper in &papers {
             paper.check(device.verdict(paper.kind));
+        }
+    }
+}
+
+/// Maps or unmaps; a type that names no stream is refused.
+fn change<R: Recorder>(device: &mut R, papers: &mut [Paper; 2], change: Change, mapping: &Mapping) {
+    for _ in 0..mapping.times {
+        let number = mapping.once(change, device);
+        match papers.iter_mut().find(|paper| paper.kind == mapping.kind) {
+            Some(paper) => paper.changed(change, mapping, number),
+            None => assert_eq!(number, 22),
         }
     }
 }

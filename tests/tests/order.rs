@@ -35,6 +35,7 @@ fn closed<R: Recorder>(device: &mut R) {
     for kind in [PICTURES, CAPTIONS, 2] {
         assert_eq!(device.arrival(kind, &mut [0; 9], &[], 0, 0), Arrived { answer: REFUSED, number: 22, buffer: 0 });
         assert_eq!(device.verdict(kind), BLANK);
+        assert_eq!([device.map(kind, 0, 4096), device.unmap(kind, 0, 4096)], [22, 22]);
     }
     assert_eq!(device.plane(0, 0), Plane { number: 22, start: 0, length: 0 });
 }
@@ -101,6 +102,12 @@ fn buffers<R: Recorder>(device: &mut R, kind: u32, fit: (usize, u32)) {
     done(device, STREAMON, &[(0, kind)]);
     assert_eq!(dequeue(device, kind, 1), 11);
     assert_eq!([count(device, 1, 2, 1), count(device, 1, kind, 2), count(device, 1, kind, 1)], [22, 22, 16]);
+    // The type and the memory before a map, which stands in the way of freeing the buffers, too; a map's place before its limit.
+    let slot = word(&done(device, QUERYBUF, &[(4, kind)]), 56);
+    (0..255).for_each(|_| assert_eq!(device.map(kind, 0, slot), 0));
+    assert_eq!([count(device, 0, 2, 1), count(device, 0, kind, 2), count(device, 0, kind, 1)], [22, 22, 16]);
+    assert_eq!([device.map(2, 0, slot), device.map(kind, 0, 1), device.map(kind, 0, slot)], [22, 22, 75]);
+    (0..255).for_each(|_| assert_eq!(device.unmap(kind, 0, slot), 0));
     // Freeing the buffers ends the run, and the waiting with it.
     assert_eq!([count(device, 0, kind, 1), dequeue(device, kind, 1)], [0, 22]);
     assert_eq!(ask(device, S_FMT, &[(0, kind), fit]).0, 0);

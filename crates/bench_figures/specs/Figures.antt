@@ -14,6 +14,9 @@ use Rattle.stream_slots.specs.Slot.{slotSize}
 use Rattle.stream_run.specs.Switches.{grantOf}
 use Rattle.stream_run.specs.Stream.{reduced}
 use Rattle.stream_words.specs.Stream.{Stream}
+use Rattle.stream_maps.specs.declared.Change.{Change}
+use Rattle.stream_maps.specs.declared.Change.the-variants.{Map, Unmap}
+use Rattle.stream_maps.specs.Maps.{noMaps}
 use Rattle.stream_arrival.specs.Arrivals.{arrivalOf}
 use Rattle.arrival_replies.specs.Answer.{toldOf}
 use Rattle.wire_read.specs.Words.{wordAt, bytesOf}
@@ -26,6 +29,7 @@ use Rattle.device_opening.specs.Opening.{openedOf}
 use Rattle.service_rules.specs.Services.{capabilityLines}
 use Rattle.service_rules.specs.Negotiation.{negotiatedLines, unionOf, carrying, ioSize}
 use Rattle.device_film.specs.Film.{deviceVerdict}
+use Rattle.device_maps.specs.Mapping.{mappedOf}
 use Rattle.plane_rules.specs.Planes.{planeStart}
 use Rattle.grid_rules.specs.Grid.{sizesOf, walkSizes}
 use Rattle.crop_rules.specs.Crop.{clamped}
@@ -169,6 +173,7 @@ aged on n over = record {
   run = record { ran = 1; accepted = n; handed = over; damaged = n - over; dropped = 0; discarded = 0 };
   number = reduced n;
   queues = record { granted = 1; incoming = 0 ∷ []; outgoing = [] };
+  maps = noMaps;
 }
 
 -- the number in the answer to a whole frame behind n arrivals: its own, or that of a refusal
@@ -178,6 +183,26 @@ numberBehind n = pos (toldOf (arrivalOf (aged 1 n n) benchMemory 64 true 64 (rec
 -- the verdict on a film of n arrivals, so many handed over
 abbrev filmOf : ℕ → ℕ → ℤ
 filmOf n over = pos (verdictNumber (verdictOf (aged 0 n over)))
+
+-- ---- maps
+
+-- ten buffers asked for, one granted, its slot all of 614,400 bytes; then it is mapped
+abbrev withBuffer : State → State
+withBuffer d = asked d 0xC0145608 (10 ∷ 1 ∷ 1 ∷ 0 ∷ 0 ∷ [])
+
+abbrev holding : State → State
+holding d = mappedOf Map (withBuffer d) 1 0 614400 .state
+
+-- the number that a map or an unmap gives back
+abbrev changeNumber : Change → State → ℕ → ℕ → ℤ
+changeNumber c d o l = pos (mappedOf c d 1 o l .number)
+
+-- the number that a request for no buffers gives back, and the flags that QUERYBUF tells of buffer 0
+abbrev freeNumber : State → ℤ
+freeNumber d = pos (requestAnswer (keptOf benchSheet) d 0xC0145608 (bytesOf (0 ∷ 1 ∷ 1 ∷ 0 ∷ 0 ∷ [])) .number)
+
+abbrev toldFlags : State → ℤ
+toldFlags d = pos (wordAt (requestAnswer (keptOf benchSheet) d 0xC0445609 (bytesOf (0 ∷ 1 ∷ replicate 15 0)) .argument) 12)
 
 -- ---- the table
 
@@ -280,6 +305,17 @@ figuresOf d o =
     ∷ filmOf 4294967301 4294967301 gives pos 3
     ∷ filmOf 4294967301 4294967300 gives pos 2
     ∷ filmOf 4294967301 5 gives pos 2
+    -- maps: of a buffer, beside it, of another length, of the one behind the last; an unmap before any
+    ∷ changeNumber Map (withBuffer d) 0 614400 gives pos 0
+    ∷ changeNumber Map (withBuffer d) 4096 614400 gives pos 22
+    ∷ changeNumber Map (withBuffer d) 0 614399 gives pos 22
+    ∷ changeNumber Map (withBuffer d) 614400 614400 gives pos 22
+    ∷ changeNumber Unmap (withBuffer d) 0 614400 gives pos 22
+    -- while it is mapped: its flag, a request for no buffers, and its unmap
+    ∷ toldFlags (withBuffer d) gives pos 0
+    ∷ toldFlags (holding d) gives pos 1
+    ∷ freeNumber (holding d) gives pos 16
+    ∷ changeNumber Unmap (holding d) 0 614400 gives pos 0
     ∷ []
 
 unfoldable pub figures : List Figure

@@ -31,8 +31,8 @@ abbrev pub stepped : Step → List ℕ → StreamAnswer
 stepped r b = streamAnswer (replyNumber (r .reply)) (r .stream) b
 
 -- only for memory 1, the only kind there is
-abbrev pub mapped : ℕ → Stream → List ℕ → StreamAnswer → StreamAnswer
-mapped at s a r = cond (not (eqb (wordAt a at) 1)) (streamAnswer (errnoOf WrongMemory) s a) r
+abbrev pub ofMemory : ℕ → Stream → List ℕ → StreamAnswer → StreamAnswer
+ofMemory at s a r = cond (not (eqb (wordAt a at) 1)) (streamAnswer (errnoOf WrongMemory) s a) r
 
 -- REQBUFS: how many there are now, unless it is refused
 abbrev pub requestReply : Reply → ℕ → List ℕ → List ℕ
@@ -42,7 +42,7 @@ requestReply Done kind a = a
 requestReply (Returned f) kind a = a
 
 unfoldable pub reqbufsOf : Stream → ℕ → ℕ → List ℕ → StreamAnswer
-reqbufsOf s kind size a = mapped 8 s a (stepped (requestBuffersOf s (wordAt a 0) size) (requestReply (requestBuffersOf s (wordAt a 0) size .reply) kind a))
+reqbufsOf s kind size a = ofMemory 8 s a (stepped (requestBuffersOf s (wordAt a 0) size) (requestReply (requestBuffersOf s (wordAt a 0) size .reply) kind a))
 
 -- QUERYBUF: an index that is there
 abbrev pub queriedAs : Queried → Stream → ℕ → List ℕ → StreamAnswer

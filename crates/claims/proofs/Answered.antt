@@ -69,13 +69,15 @@ use Rattle.dequeue_calls.specs.Dequeues.{dqbufOf}
 use Rattle.run_calls.specs.Runs.{streamonOf, streamoffOf}
 use Rattle.request_topics.specs.Request.{byVideo, byCaptions, byServices, streamCall, callAnswer}
 use Rattle.device_opening.specs.Opening.{Opened, longestMemory, closedBy, openedOf}
+use Rattle.stream_maps.specs.declared.Change.{Change}
+use Rattle.device_maps.specs.Mapping.{mappedOf}
 use Rattle.device_film.specs.Film.{Taken, taken as takes, pictureArrives, captionsArrive, takenOf, takenMemory, deviceVerdict}
 use Rattle.device_planes.specs.Planes.{devicePlace}
 use Rattle.stream_history.specs.Paper.{Paper, Event, step}
 use Rattle.stream_history.specs.Paper.Event.{put, handed}
 use Rattle.stream_history.proofs.Tied.{Tied}
 use Rattle.claims.specs.Calls.{Kind, typeOf, Call, arrivalTime}
-use Rattle.claims.specs.Calls.Call.{request, arrival}
+use Rattle.claims.specs.Calls.Call.{request, arrival, change}
 use Rattle.claims.specs.Calls.Reply.{answered}
 use Rattle.claims.specs.Machine.{more, replyIn}
 use Rattle.claims.specs.Words.{requestTold, toldBy, paperIn, papersIn}
@@ -89,6 +91,7 @@ use Rattle.claims.proofs.Boxes.{Box, opened, asks, reply, next, paperAf
 use Rattle.claims.proofs.Steps.{view, boxWith, byKind, Safe, Foretold, Does, whole-reply, does-call, kind-view}
 use Rattle.claims.proofs.Checks.{sizeOf}
 use Rattle.claims.proofs.Shut.{openedBy, opening-by, boxOf}
+use Rattle.claims.proofs.Mapping.{by-tests}
 use Rattle.claims.proofs.Honest.{honest-request}
 use Rattle.claims.proofs.Formats.{Reached, reached}
 use Rattle.claims.proofs.Lists.{Stands, Since, since, same-paper, one-more}
@@ -167,7 +170,7 @@ queues-same w p t = rw (← t .holds .granted, ← t .holds .ins, ← t .holds .
 
 status-same : (w : World) (p : Paper) → Tied w p → (i : ℕ) → statusOf (w .stream) i (w .size) ≡ statusOn p i
 unfolding statusOf
-status-same w p t i = rw (queues-same w p t, t .size)
+status-same w p t i = rw (queues-same w p t, t .size, t .maps)
 
 -- an accepted QBUF tells the buffer as it is then
 qbuf-answers : (x : Stream) (kind size : ℕ) (a : List ℕ) → length a ≡ 68 → qbufOf x kind size a .number ≡ 0
@@ -284,10 +287,10 @@ module _ (s : List ℕ) (good : goodSheet s ≡ true) (d : State) (mem : Kind �
       let g : Does k4 box (P k4) Dqbuf a (streamCall dqbufOf 4 d a) = does-call k4 box (P k4) a (safe k4) Dqbuf l in
       let handed-is : g .event ≡ handed =
       sym (g .tells) ∙ ap (λ (n : ℕ). cond (eqb n 0) (toldBy k4 (P k4) Dqbuf a (streamCall dqbufOf 4 d a .argument)) Event.idle) h ∙ sym (told-named Dqbuf (streamCall dqbufOf 4 d a .argument) e) in
-      let q : answered (streamCall dqbufOf 4 d a .number) (streamCall dqbufOf 4 d a .argument) ≡ answered 0 (bufferReply (typeOf k4) (returnedOf (firstOn (P k4 .outgoing)) (P k4 .size))) =
+      let q : answered (streamCall dqbufOf 4 d a .number) (streamCall dqbufOf 4 d a .argument) ≡ answered 0 (bufferReply (typeOf k4) (returnedOf (P k4 .maps) (firstOn (P k4 .outgoing)) (P k4 .size))) =
       subst (λ (x : Event). Foretold k4 (P k4) x (answered (streamCall dqbufOf 4 d a .number) (streamCall dqbufOf 4 d a .argument))) handed-is (g .foretold) in
-      let same : streamCall dqbufOf 4 d a .argument ≡ bufferReply (typeOf k4) (returnedOf (firstOn (P k4 .outgoing)) (P k4 .size)) = cc q in
-      record { desk = stream-desk dqbufOf 4; argument = same ∙ ap (λ (t : ℕ). bufferReply t (returnedOf (firstOn (P k4 .outgoing)) (P k4 .size))) e }
+      let same : streamCall dqbufOf 4 d a .argument ≡ bufferReply (typeOf k4) (returnedOf (P k4 .maps) (firstOn (P k4 .outgoing)) (P k4 .size)) = cc q in
+      record { desk = stream-desk dqbufOf 4; argument = same ∙ ap (λ (t : ℕ). bufferReply t (returnedOf (P k4 .maps) (firstOn (P k4 .outgoing)) (P k4 .size))) e }
 
   answered-read : length a ≡ 8 → Does-it GCtrl (gCtrlOf (keptOf s) d a)
   unfolding gCtrlOf reading readingAt
@@ -449,6 +452,17 @@ arrival-desk d t l f u = go (eqb (d .ready) 0) (eqb t 1) (eqb t 6)
     go false false true = refl
     go false false false = refl
 
+-- and so does a map or an unmap
+change-desk : (c : Change) (d : State) (t o l : ℕ) → deskOf (mappedOf c d t o l .state) ≡ deskOf d
+unfolding mappedOf
+change-desk c d t o l = go (eqb (d .ready) 0) (eqb t 1) (eqb t 6)
+  where
+    go : (x y z : Bool) → deskOf (by-tests c d t o l x y z .state) ≡ deskOf d
+    go true y z = refl
+    go false true z = refl
+    go false false true = refl
+    go false false false = refl
+
 -- a good opening, and any calls after it
 module _ (s : List ℕ) (m : Kind → List ℕ) (good : goodSheet s ≡ true) (zero-is : openedBy s m .number ≡ 0) where
   stands : (cs : List Call) (k : Kind) → Stands s m k (boxAfter s m cs) (paperAfter s m k cs)
@@ -484,6 +498,7 @@ module _ (s : List ℕ) (m : Kind → List ℕ) (good : goodSheet s ≡ true) (z
       go true e = accepted cs w a (eqb-true (asks b w a .number) 0 e) .desk
       go false e = ap deskOf (honest-request (b .state) a (b .sheet) w .unchanged (eqb-false (asks b w a .number) 0 e) .0)
   desk-next cs (arrival t f x y other) = arrival-desk (boxAfter s m cs .state) t _ f (arrivalTime x y)
+  desk-next cs (change c t o l) = change-desk c (boxAfter s m cs .state) t o l
 
   at-first : deskOf (opened s m .state) ≡ openingDesk s
   unfolding closedBy

@@ -15,13 +15,14 @@ use Rattle.device_state.specs.Answers.{Answer}
 use Rattle.request_topics.specs.Request.{requestAnswer}
 use Rattle.device_opening.specs.Opening.{openedOf}
 use Rattle.device_film.specs.Film.{Taken, takenOf, takenMemory, deviceVerdict}
+use Rattle.device_maps.specs.Mapping.{mappedOf}
 use Rattle.device_planes.specs.Planes.{devicePlace}
 use Rattle.stream_history.specs.Calls.{leaves}
 use Rattle.stream_history.specs.Paper.{Paper, Event, blank, noted, wholes, dequeues, Calm, handedOver, tells}
 use Rattle.stream_history.specs.Paper.Event.{whole}
 use Rattle.claims.specs.Calls.{Kind, typeOf, Call, Reply, arrivalTime}
-use Rattle.claims.specs.Calls.Call.{request, arrival}
-use Rattle.claims.specs.Calls.Reply.{answered, taken}
+use Rattle.claims.specs.Calls.Call.{request, arrival, change}
+use Rattle.claims.specs.Calls.Reply.{answered, taken, numbered}
 use Rattle.claims.specs.Machine.{Machine}
 use Rattle.claims.specs.Words.{told, openingSize}
 use Rattle.claims.specs.Device.{lentTo, keptOn, streamOf}
@@ -52,6 +53,7 @@ arrives b t f x y other = takenOf (b .state) t (length (lentTo (b .memory) t oth
 abbrev pub reply : Box → Call → Reply
 reply b (request w a) = answered (asks b w a .number) (asks b w a .argument)
 reply b (arrival t f x y other) = taken (arrives b t f x y other .arrival)
+reply b (change c t o l) = numbered (mappedOf c (b .state) t o l .number)
 
 -- with the services in force before it
 abbrev pub seen : Box → Call → Reply × List ℕ
@@ -66,6 +68,7 @@ next b (arrival t f x y other) =
       state = arrives b t f x y other .state;
       memory = keptOn (b .memory) t other (takenMemory (b .state) t (lentTo (b .memory) t other) f (arrivalTime x y));
     }
+next b (change c t o l) = record { sheet = b .sheet; state = mappedOf c (b .state) t o l .state; memory = b .memory }
 
 -- what a list of calls leaves
 abbrev pub after : Box → List Call → Box
@@ -94,6 +97,7 @@ ours s m = record {
   request = λ cs w a. record { number = asks (boxAfter s m cs) w a .number; argument = asks (boxAfter s m cs) w a .argument };
   arrival = λ cs t f x y other. arrives (boxAfter s m cs) t f x y other .arrival;
   leaves = λ cs t f x y other. takenMemory (boxAfter s m cs .state) t other f (arrivalTime x y);
+  change = λ cs c t o l. mappedOf c (boxAfter s m cs .state) t o l .number;
   memory = λ k cs. boxAfter s m cs .memory k;
   counts = λ k cs. streamOf k (boxAfter s m cs .state) .run;
   verdict = λ cs t. deviceVerdict (boxAfter s m cs .state) t;

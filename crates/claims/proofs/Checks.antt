@@ -1,17 +1,20 @@
 -- The tests that the device makes: those of the refusal table, of its state for the paper.
-use Prim.Native.Nat.{ℕ, _/_, _%_}
+use Prim.Native.Nat.{ℕ, _/_, _%_, min}
 use mathlib.Core.Bool.{true, cond, not, _&&_, _||_}
 use mathlib.Core.List.{List, [], _∷_}
 use lib.Dec.{eqb, leb}
 use lib.ListN.{length}
 use Rattle.wire_read.specs.Words.{wordAt}
 use Rattle.ioctl_table.specs.Table.{requestOf}
-use Rattle.ioctl_table.specs.declared.refusals.Refusal.the-variants.{ArgumentLength, MemoryLength, Closed, UnknownWord, NoSuchIndex, NoSuchControl, NotDequeued, NoBuffers, NotStreaming, ControlDisabled, ControlReadOnly, ControlIsButton, BuffersExist, Streaming, ControlGrabbed, OutOfRange, NothingOutgoing, RunFull, WrongType}
+use Rattle.ioctl_table.specs.declared.refusals.Refusal.the-variants.{ArgumentLength, MemoryLength, Closed, UnknownWord, NoSuchIndex, NoSuchControl, NotDequeued, NoBuffers, NotStreaming, ControlDisabled, ControlReadOnly, ControlIsButton, NoSuchBuffer, BuffersExist, StillMapped, Streaming, ControlGrabbed, OutOfRange, NothingOutgoing, RunFull, WrongType}
 use Rattle.ioctl_table.specs.declared.table.Call.{Call}
 use Rattle.ioctl_table.specs.declared.table.Call.the-variants.{Unknown, Querycap, EnumFmt, GFmt, SFmt, TryFmt, Reqbufs, Querybuf, Qbuf, Dqbuf, Streamon, Streamoff, GCtrl, SCtrl, Queryctrl, Cropcap, GCrop, SCrop, GSlicedVbiCap}
 use Rattle.sheet_contents.specs.Contents.{formatCount}
 use Rattle.control_place_rules.specs.Find.{present, placeOf, queriedPlace}
 use Rattle.stream_words.specs.Moves.{isIncoming, isOutgoing}
+use Rattle.stream_slots.specs.Slot.{isSlot, bufferAt}
+use Rattle.stream_maps.specs.declared.Change.{Change}
+use Rattle.stream_maps.specs.Maps.{mapsOf, anyMapped, blocked, whyNot}
 use Rattle.stream_run.specs.Stream.{streaming}
 use Rattle.device_state.specs.State.{State}
 use Rattle.stream_words.specs.declared.Time.{Time}
@@ -41,7 +44,8 @@ checks EnumFmt s d a = wrongType a 4 ∷ check (leb (formatCount s) (wordAt a 0)
 checks GFmt s d a = wrongStream a 0 ∷ []
 checks SFmt s d a = wrongStream a 0 ∷ check (not (eqb (streamAt d a 0 .queues .granted) 0)) BuffersExist ∷ []
 checks TryFmt s d a = wrongStream a 0 ∷ []
-checks Reqbufs s d a = wrongStream a 4 ∷ wrongMemory a 8 ∷ check (streaming (streamAt d a 4) && not (eqb (wordAt a 0) 0)) Streaming ∷ []
+checks Reqbufs s d a =
+    wrongStream a 4 ∷ wrongMemory a 8 ∷ check (anyMapped (streamAt d a 4 .maps)) StillMapped ∷ check (streaming (streamAt d a 4) && not (eqb (wordAt a 0) 0)) Streaming ∷ []
 checks Querybuf s d a = wrongStream a 4 ∷ check (leb (streamAt d a 4 .queues .granted) (wordAt a 0)) NoSuchIndex ∷ []
 checks Qbuf s d a =
     wrongStream a 4 ∷ wrongMemory a 48 ∷ check (leb (streamAt d a 4 .queues .granted) (wordAt a 0)) NoSuchIndex
@@ -81,3 +85,10 @@ abbrev pub arrivedBy : Kind → State → List ℕ → Time → Arrival
 arrivedBy k d f t =
     cond (not (streaming (streamOf k d))) Ignored
     (cond (wholeOn k (sizeOf k d) (d .services) f t) (placedOn (streamOf k d .queues .incoming) (streamOf k d .number)) Damaged)
+
+-- a map or an unmap: a closed device, another type, no buffer there, a count at its end
+abbrev pub changeChecks : Change → State → ℕ → ℕ → ℕ → List Check
+changeChecks c d t o l =
+    check (eqb (d .ready) 0) Closed ∷ check (noStream t) WrongType
+    ∷ check (not (isSlot (min (streamOf (kindOf t) d .queues .granted) 32) (sizeOf (kindOf t) d) o l)) NoSuchBuffer
+    ∷ check (blocked c (mapsOf (streamOf (kindOf t) d .maps) (bufferAt (sizeOf (kindOf t) d) o))) (whyNot c) ∷ []

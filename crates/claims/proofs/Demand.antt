@@ -15,7 +15,7 @@ use Rattle.ioctl_table.specs.declared.table.Call.the-variants.{Unknown, Queryca
 use Rattle.format_rules.proofs.Bounds.{image-fits}
 use Rattle.sheet_geometry.specs.Geometry.{lineAlignment}
 use Rattle.stream_words.specs.declared.Time.{Time}
-use Rattle.stream_slots.specs.Slot.{slotOffset}
+use Rattle.stream_slots.specs.Slot.{slotOffset, bufferAt}
 use Rattle.stream_slots.proofs.Slots.{slots-apart}
 use Rattle.stream_run.specs.Stream.{reduced}
 use Rattle.stream_arrival.specs.declared.Arrival.the-variants as arrivals
@@ -27,9 +27,10 @@ use Rattle.stream_status.specs.Buffer.{describedOf, returnedOf}
 use Rattle.buffer_replies.specs.Replies.{bufferReply}
 use Rattle.buffer_replies.proofs.Lengths.{buffer-index, buffer-used, buffer-number, buffer-offset, buffer-seconds, buffer-microseconds}
 use Rattle.device_state.specs.State.{closedState}
+use Rattle.device_maps.specs.Mapping.{mappedOf}
 use Rattle.device_film.specs.Film.{deviceVerdict}
 use Rattle.stream_history.specs.Paper.{Pair, Paper, Event, indexOf, blank, refusedArrival, frameOf, filled, step, noted, wholes, dequeues, Calm}
-use Rattle.stream_history.specs.Paper.Event.{put, whole, damaged, handed, begun, idle}
+use Rattle.stream_history.specs.Paper.Event.{put, whole, damaged, handed, begun, changed, idle}
 use Rattle.stream_history.specs.Claims.{_⇔_}
 use Rattle.stream_history.proofs.Lists.{All, all-append}
 use Rattle.stream_history.proofs.Sound.{Fits, sound-blank}
@@ -39,7 +40,7 @@ use Rattle.stream_history.proofs.Order.{At, Leaves, pairOf, comes-first, leaves
 use Rattle.stream_history.proofs.Machine.{leaves-append, noted-tells, Cut, cut, keeps-after, legal-tells}
 use Rattle.stream_history.proofs.InOrder.{isWhole, never}
 use Rattle.stream_history.proofs.Meanings.{Means, exactly}
-use Rattle.claims.specs.Calls.Call.{request, arrival}
+use Rattle.claims.specs.Calls.Call.{request, arrival, change}
 use Rattle.claims.specs.Calls.Reply.{answered, taken}
 use Rattle.claims.proofs.Steps.{view, Timed, Safe, Foretold}
 use Rattle.claims.proofs.Open.{fits-next, foretold-next, safe-next}
@@ -104,10 +105,10 @@ module _ (kd : Kind) where
     microseconds : signedAt a 24 ≡ x .frame .time .microseconds
     bytes : take (length (x .frame .bytes)) (drop (wordAt a 52) (b .memory kd)) ≡ x .frame .bytes
 
-  says : (b : Box) (p : Paper) (x : Pair) (r : List Pair) → Safe kd b p → p .outgoing ≡ x ∷ r → Says b p x (bufferReply (typeOf kd) (returnedOf (entry x) (p .size)))
+  says : (b : Box) (p : Paper) (x : Pair) (r : List Pair) → Safe kd b p → p .outgoing ≡ x ∷ r → Says b p x (bufferReply (typeOf kd) (returnedOf (p .maps) (entry x) (p .size)))
   unfolding returnedOf describedOf
   says b p x r s e =
-      let st : Status = returnedOf (entry x) (p .size) in
+      let st : Status = returnedOf (p .maps) (entry x) (p .size) in
       let held : Held (p .size) (b .memory kd) x = subst (All (Held (p .size) (b .memory kd))) e (s .kept .tied .held) .0 in
       let timed : Timed (x .frame .time) = subst (All (λ y. Timed (y .frame .time))) e (s .timed) .0 in
       let below : x .index < p .granted = subst (λ (l : List Pair). All (λ k. k < p .granted) (map indexOf l ++ p .incoming)) e (s .kept .sound .below) .0 in
@@ -127,10 +128,10 @@ module _ (kd : Kind) where
       → requestOf v .call ≡ Dqbuf → wordAt c 4 ≡ typeOf kd → reply b (request v c) ≡ answered 0 a → Says b p x a
   returned-now b p x r v c a s e w n h =
       let told-handed : told kd p (request v c) (seen b (request v c)) ≡ handed = told-accepted b p v c a Dqbuf w n h in
-      let g : reply b (request v c) ≡ answered 0 (bufferReply (typeOf kd) (returnedOf (firstOf (p .outgoing)) (p .size))) =
+      let g : reply b (request v c) ≡ answered 0 (bufferReply (typeOf kd) (returnedOf (p .maps) (firstOf (p .outgoing)) (p .size))) =
       subst (λ (z : Event). Foretold kd p z (reply b (request v c))) told-handed (foretold-next kd b p (request v c) s) in
-      let q : answered 0 (bufferReply (typeOf kd) (returnedOf (entry x) (p .size))) ≡ answered 0 a =
-      sym (g ∙ ap (λ (l : List Pair). answered 0 (bufferReply (typeOf kd) (returnedOf (firstOf l) (p .size)))) e) ∙ h in
+      let q : answered 0 (bufferReply (typeOf kd) (returnedOf (p .maps) (entry x) (p .size))) ≡ answered 0 a =
+      sym (g ∙ ap (λ (l : List Pair). answered 0 (bufferReply (typeOf kd) (returnedOf (p .maps) (firstOf l) (p .size)))) e) ∙ h in
       subst (Says b p x) (cc q) (says b p x r s e)
 
   -- an accepted DQBUF found a filled buffer
@@ -183,6 +184,12 @@ module _ (kd : Kind) where
       go true i false false w e = never idle f t refl e
       go true i false true false e = never damaged f t refl e
       go true i false true true e = record { seconds = x; microseconds = y; other = other; is = cc (eqb-true n (typeOf kd) i, e); time = cc e }
+  whole-call b p (change c n o l) f t h = go (eqb (mappedOf c (b .state) n o l .number) 0) (eqb n (typeOf kd)) h
+    where
+      go : (x y : Bool) → cond x (cond y (changed c (bufferAt (p .size) o)) idle) idle ≡ whole f t → IsArrival (change c n o l) f t
+      go true true e = never (changed c (bufferAt (p .size) o)) f t refl e
+      go true false e = never idle f t refl e
+      go false y e = never idle f t refl e
 
   arrival-of : (b : Box) (p : Paper) (cs : List Call) (n : ℕ) (a : At (events kd b p cs) n) (c : Cut seen next (told kd) b p cs (a .front) (whole (a .bytes) (a .time)))
       → IsArrival (c .call) (a .bytes) (a .time) → ArrivalAmong kd b p cs n

@@ -8,7 +8,7 @@ use lib.ListN.{length}
 use Rattle.device_opening.specs.Opening.{Whole, openedOf}
 use Rattle.device_film.specs.Film.{takenOf, takenMemory}
 use Rattle.claims.specs.Calls.{Kind, Call, arrivalTime}
-use Rattle.claims.specs.Calls.Call.{request, arrival}
+use Rattle.claims.specs.Calls.Call.{request, arrival, change}
 use Rattle.claims.specs.Machine.{Session, Machine}
 use Rattle.claims.specs.Device.{Kept, takes, goesOn, keptAfter, machineOf, ourDevice}
 use Rattle.claims.specs.Demands.{Demand1, Demand2, Demand3, Counts, Answers}
@@ -17,6 +17,7 @@ use Rattle.claims.proofs.Told.{told-1}
 use Rattle.claims.proofs.Tried.{told-2}
 use Rattle.claims.proofs.Queued.{told-3, told-counts}
 use Rattle.claims.proofs.Answered.{told-answers}
+use Rattle.claims.proofs.Papers.{Papered, papered}
 
 abbrev keeps : Box → Kept Whole
 keeps b = record { device = record { sheet = b .sheet; state = b .state }; memory = b .memory }
@@ -24,6 +25,7 @@ keeps b = record { device = record { sheet = b .sheet; state = b .state }; memor
 same-next : (b : Box) (c : Call) → goesOn ourDevice (keeps b) c ≡ keeps (next b c)
 same-next b (request w a) = refl
 same-next b (arrival t f x y other) = refl
+same-next b (change c t o l) = refl
 
 same-after : (cs : List Call) (b : Box) → keptAfter ourDevice (keeps b) cs ≡ keeps (after b cs)
 same-after [] b = refl
@@ -36,6 +38,7 @@ seen n k = record {
   request = λ cs w a. ourDevice .request (k cs .device) w a .given;
   arrival = λ cs t f x y other. takes ourDevice (k cs) t f x y other .arrival;
   leaves = λ cs t f x y other. ourDevice .arrive (k cs .device) t other f x y .memory;
+  change = λ cs c t o l. ourDevice .change (k cs .device) c t o l .number;
   memory = λ j cs. k cs .memory j;
   counts = λ j cs. ourDevice .counts j (k cs .device);
   verdict = λ cs t. ourDevice .verdict (k cs .device) t;
@@ -63,3 +66,6 @@ device-counts = of-device (λ (M : Machine). (s : List ℕ) (m : Kind → List �
 
 pub device-answers : (s : List ℕ) (m : Kind → List ℕ) → Answers s m (machineOf ourDevice s m)
 device-answers = of-device (λ (M : Machine). (s : List ℕ) (m : Kind → List ℕ) → Answers s m (M s m)) told-answers
+
+pub device-papered : (s : List ℕ) (m : Kind → List ℕ) (k : Kind) → Papered s (machineOf ourDevice s m) k
+device-papered = of-device (λ (M : Machine). (s : List ℕ) (m : Kind → List ℕ) (k : Kind) → Papered s (M s m) k) papered

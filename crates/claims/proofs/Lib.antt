@@ -3,6 +3,7 @@ pub mod Checks
 pub mod Table
 pub mod Honest
 pub mod Steps
+pub mod Mapping
 pub mod Open
 pub mod Shut
 pub mod Demand
@@ -12,6 +13,7 @@ pub mod Arrivals
 pub mod Sessions
 pub mod Services
 pub mod Lists
+pub mod Papers
 pub mod Told
 pub mod Tried
 pub mod Queued

@@ -16,7 +16,7 @@ use Rattle.stream_history.specs.Paper.{Paper, Event, blank, step, noted}
 use Rattle.stream_history.proofs.Machine.{leaves-append, keeps-after}
 use Rattle.claims.specs.Calls.{Kind, Call, arrivalTime}
 use Rattle.claims.specs.Calls.{Reply}
-use Rattle.claims.specs.Calls.Call.{request, arrival}
+use Rattle.claims.specs.Calls.Call.{request, arrival, change}
 use Rattle.claims.specs.Machine.{more, replyIn, NoTrace}
 use Rattle.claims.specs.Words.{told, seenIn, openingSize, eventsIn, paperIn}
 use Rattle.claims.specs.Device.{streamOf}
@@ -35,6 +35,7 @@ module _ (s : List ℕ) (m : Kind → List ℕ) where
   pub same-reply : (h : List Call) (c : Call) → replyIn (ours s m) h c ≡ reply (boxAfter s m h) c
   same-reply h (request w a) = refl
   same-reply h (arrival t f x y other) = refl
+  same-reply h (change c t o l) = refl
 
   -- with the services in force before it
   pub same-seen : (h : List Call) (c : Call) → seenIn s (ours s m) h c ≡ seen (boxAfter s m h) c
@@ -74,6 +75,7 @@ pub record Stands (s : List ℕ) (m : Kind → List ℕ) (k : Kind) (b : Box) (p
 same-sheet : (b : Box) (c : Call) → next b c .sheet ≡ b .sheet
 same-sheet b (request w a) = refl
 same-sheet b (arrival t f x y other) = refl
+same-sheet b (change c t o l) = refl
 
 stands-next : (s : List ℕ) (m : Kind → List ℕ) (k : Kind) (b : Box) (p : Paper) (c : Call) → Stands s m k b p → Stands s m k (next b c) (step p (told k p c (seen b c)))
 stands-next s m k b p c t = record {

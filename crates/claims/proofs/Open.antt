@@ -11,7 +11,11 @@ use lib.Seq.{length-sets}
 use Rattle.wire_signed.proofs.Integers.{signed-fits}
 use Rattle.ioctl_table.specs.Table.{requestOf}
 use Rattle.stream_words.specs.declared.Time.{Time}
-use Rattle.stream_slots.specs.Slot.{slotOffset}
+use Rattle.stream_slots.specs.Slot.{slotOffset, bufferAt}
+use Rattle.stream_maps.specs.declared.Change.{Change}
+use Rattle.stream_run.specs.Numbers.{replyNumber}
+use Rattle.stream_run.specs.Switches.{Step}
+use Rattle.device_maps.specs.Mapping.{Mapped, mapped, mappedOf}
 use Rattle.stream_arrival.specs.declared.Arrival.{Arrival}
 use Rattle.stream_arrival.specs.declared.Arrival.the-variants as arrivals
 use Rattle.stream_words.specs.Stream.{Stream}
@@ -24,18 +28,19 @@ use Rattle.device_state.specs.Setup.{Setup}
 use Rattle.device_state.specs.State.{State, setupOf, withVideo, withCaptions}
 use Rattle.device_film.specs.Film.{Taken, taken as takes, takenOf, takenMemory, frameSize}
 use Rattle.stream_history.specs.Calls.{World}
-use Rattle.stream_history.specs.Calls.Call.{arrival as comes}
+use Rattle.stream_history.specs.Calls.Call.{arrival as comes, change as turns}
 use Rattle.stream_history.specs.Calls.Answer.{arrived}
-use Rattle.stream_history.specs.Paper.{Frame, Pair, Paper, Event, refusedArrival, frameOf, rest, filled, step}
-use Rattle.stream_history.specs.Paper.Event.{put, whole, damaged, handed, begun, ended, sized, idle}
+use Rattle.stream_history.specs.Paper.{Frame, Pair, Paper, Event, refusedReply, refusedArrival, frameOf, rest, filled, step}
+use Rattle.stream_history.specs.Paper.Event.{put, whole, damaged, handed, begun, ended, sized, changed, idle}
 use Rattle.stream_history.proofs.Lists.{All, all-snoc}
 use Rattle.stream_history.proofs.Sound.{Fits, sound-step}
 use Rattle.stream_history.proofs.Tied.{Tied, Answers, follows}
-use Rattle.claims.specs.Calls.Call.{request, arrival}
-use Rattle.claims.specs.Calls.Reply.{taken}
-use Rattle.claims.proofs.Steps.{view, Timed, Sized, Safe, Foretold, Timely, Does, does-request}
+use Rattle.claims.specs.Calls.Call.{request, arrival, change}
+use Rattle.claims.specs.Calls.Reply.{taken, numbered}
+use Rattle.claims.proofs.Steps.{view, Timed, Sized, Safe, Foretold, Timely, Does, never-told, does-request}
 use Rattle.claims.proofs.Checks.{sizeOf}
 use Rattle.claims.proofs.Arrivals.{whole-short}
+use Rattle.claims.proofs.Mapping.{turned, withKind, mapped-chosen, open-mapped, other-mapped, by-number}
 use Rattle.claims.specs.Table.{kindOf, wholeOn}
 use Rattle.claims.specs.Device.{lentTo, keptOn, streamOf}
 use Rattle.claims.specs.Calls.{Kind, typeOf, Call, arrivalTime}
@@ -70,10 +75,6 @@ timed-of x y = (signed-fits (x % 2 ^ 32) (omega arith), signed-fits (y % 2 ^ 32)
 -- a frame arrives at a stream
 abbrev pub arrivesBy : Kind → State → ℕ → List ℕ → Time → Arrived
 arrivesBy k d l f t = arrivalOf (streamOf k d) l (length f) (wholeOn k (sizeOf k d) (d .services) f t) (sizeOf k d) t
-
-abbrev pub withKind : Kind → State → Stream → State
-withKind Kind.pictures d s = withVideo d s
-withKind Kind.captions d s = withCaptions d s
 
 pub kind-stream : (k : Kind) (d : State) (s : Stream) → streamOf k (withKind k d s) ≡ s
 kind-stream Kind.pictures d s = refl
@@ -164,19 +165,19 @@ arrival-view Kind.captions b e f x y other = go (eqb (length other) (length (b .
     go true = rw (open-taken Kind.captions (b .state) e (length (b .memory Kind.captions)) f (arrivalTime x y))
     go false = rw (open-taken Kind.captions (b .state) e (length other) f (arrivalTime x y))
 
+-- a state with the same setup is sized as before
+chosen-sized : (k : Kind) (b : Box) (p : Paper) → Safe k b p → (e : State) → setupOf e ≡ setupOf (b .state) → Sized (b .sheet) e
+chosen-sized k b p safe e q = (
+  ap (λ (z : Setup). z .line) q ∙ safe .sized .0 ∙ sym (ap (λ (z : Setup). bytesPerLine (z .format) (lineAlignment (b .sheet))) q),
+  ap (λ (z : Setup). z .size) q ∙ safe .sized .1 ∙ sym (ap (λ (z : Setup). imageSize (z .format) (lineAlignment (b .sheet))) q),
+)
+
 module _ (k : Kind) (b : Box) (p : Paper) (safe : Safe k b p) (f : List ℕ) (x y : ℕ) (other : List ℕ) where
   abbrev d : State
   d = b .state
 
   abbrev time : Time
   time = arrivalTime x y
-
-  -- a state with the same setup is sized as before
-  chosen-sized : (e : State) → setupOf e ≡ setupOf (b .state) → Sized (b .sheet) e
-  chosen-sized e q = (
-    ap (λ (z : Setup). z .line) q ∙ safe .sized .0 ∙ sym (ap (λ (z : Setup). bytesPerLine (z .format) (lineAlignment (b .sheet))) q),
-    ap (λ (z : Setup). z .size) q ∙ safe .sized .1 ∙ sym (ap (λ (z : Setup). imageSize (z .format) (lineAlignment (b .sheet))) q),
-  )
 
   -- what is lent, by whether its length fits
   lent-is : lentTo (b .memory) (typeOf k) other ≡ cond (eqb (length other) (length (b .memory k))) (b .memory k) other
@@ -206,6 +207,7 @@ module _ (k : Kind) (b : Box) (p : Paper) (safe : Safe k b p) (f : List ℕ) (x 
   foretold-of begun r h = tt
   foretold-of (ended n) r h = tt
   foretold-of (sized n) r h = tt
+  foretold-of (changed c j) r h = tt
   foretold-of idle r h = tt
 
   -- one of its own type
@@ -229,7 +231,7 @@ module _ (k : Kind) (b : Box) (p : Paper) (safe : Safe k b p) (f : List ℕ) (x 
         timely = subst Timely (h .tells) (timely-told (refusedArrival (r .arrival)) (p .running) (fl && leb (length f) (p .size)));
         ready = ap (λ (z : Setup). eqb (z .ready) 0) (taken-chosen d (typeOf k) l f time) ∙ safe .ready;
         tied = subst (λ (w : World). Tied w (step p (h .event))) (sym (arrival-view k b (safe .ready) f x y other)) (h .tied);
-        sized = chosen-sized (takenOf d (typeOf k) l f time .state) (taken-chosen d (typeOf k) l f time);
+        sized = chosen-sized k b p safe (takenOf d (typeOf k) l f time .state) (taken-chosen d (typeOf k) l f time);
         long = ap (λ (w : World). length (w .memory)) (arrival-view k b (safe .ready) f x y other) ∙ go v;
       }
     where
@@ -250,9 +252,70 @@ module _ (k : Kind) (b : Box) (p : Paper) (safe : Safe k b p) (f : List ℕ) (x 
         timely = tt;
         ready = ap (λ (z : ℕ). eqb z 0) e1 ∙ safe .ready;
         tied = subst (λ (w : World). Tied w p) (sym (rw (n, e2, e3))) (safe .kept .tied);
-        sized = chosen-sized (takenOf d t l f time .state) (taken-chosen d t l f time);
+        sized = chosen-sized k b p safe (takenOf d t l f time .state) (taken-chosen d t l f time);
         long = ap (λ (z : Bool). length (cond z (cond (eqb (length other) (length (b .memory k))) (takenMemory d t (lentTo (b .memory) t other) f time) (b .memory k)) (b .memory k))) n;
       }
+
+-- ---- a buffer is mapped or unmapped
+
+module _ (k : Kind) (b : Box) (p : Paper) (safe : Safe k b p) (c : Change) where
+  -- the size of the frames stays
+  same-size : (j : Kind) (t o l : ℕ) → sizeOf j (mappedOf c (b .state) t o l .state) ≡ sizeOf j (b .state)
+  same-size Kind.pictures t o l = ap (λ (z : Setup). z .size) (mapped-chosen c (b .state) t o l .0)
+  same-size Kind.captions t o l = ap ioSize (mapped-chosen c (b .state) t o l .1)
+
+  -- the stream, and the rest of what it is seen with
+  turned-view : (t o l : ℕ) (z : Stream) → streamOf k (mappedOf c (b .state) t o l .state) ≡ z
+      → view k (next b (change c t o l)) ≡ record { stream = z; size = sizeOf k (b .state); memory = b .memory k }
+  turned-view t o l z e = rw (e, same-size k t o l)
+
+  module _ (o l : ℕ) where
+    -- of its own type
+    turns-own : Goes k b p (change c (typeOf k) o l)
+    turns-own =
+        let d : State = b .state in
+        let r : Step = turned k c d o l in
+        let h = follows (view k b) p (turns c o l) (safe .kept .tied) (safe .kept .sound) in
+        let is : mappedOf c d (typeOf k) o l ≡ mapped (replyNumber (r .reply)) (withKind k d (r .stream)) = open-mapped k c d o l (safe .ready) in
+        let event : Event = cond (refusedReply (r .reply)) idle (changed c (bufferAt (p .size) o)) in
+        record {
+          event = event;
+          tells = ap (λ (z : Bool). cond (eqb (mappedOf c d (typeOf k) o l .number) 0) (cond z (changed c (bufferAt (p .size) o)) idle) idle) (same-type k)
+              ∙ ap (λ (z : Mapped). cond (eqb (z .number) 0) (changed c (bufferAt (p .size) o)) idle) is
+              ∙ by-number (r .reply) (changed c (bufferAt (p .size) o));
+          fits = subst (Fits p) (sym (h .tells)) (h .fits);
+          foretold = foretold-by (refusedReply (r .reply));
+          timely = timely-by (refusedReply (r .reply));
+          ready = ap (λ (z : Setup). eqb (z .ready) 0) (mapped-chosen c d (typeOf k) o l .0) ∙ safe .ready;
+          tied = subst (λ (w : World). Tied w (step p event)) (sym (turned-view (typeOf k) o l (r .stream) (ap (λ (z : Mapped). streamOf k (z .state)) is ∙ kind-stream k d (r .stream))))
+              (subst (λ (e : Event). Tied (record { stream = r .stream; size = sizeOf k d; memory = b .memory k }) (step p e)) (sym (h .tells)) (h .tied));
+          sized = chosen-sized k b p safe (mappedOf c d (typeOf k) o l .state) (mapped-chosen c d (typeOf k) o l .0);
+          long = refl;
+        }
+      where
+        foretold-by : (x : Bool) → Foretold k p (cond x idle (changed c (bufferAt (p .size) o))) (numbered (mappedOf c (b .state) (typeOf k) o l .number))
+        foretold-by true = tt
+        foretold-by false = tt
+
+        timely-by : (x : Bool) → Timely (cond x idle (changed c (bufferAt (p .size) o)))
+        timely-by true = tt
+        timely-by false = tt
+
+    -- of another
+    turns-other : (t : ℕ) → eqb t (typeOf k) ≡ false → Goes k b p (change c t o l)
+    turns-other t n =
+        let d : State = b .state in
+        record {
+          event = idle;
+          tells = ap (λ (z : Bool). cond (eqb (mappedOf c d t o l .number) 0) (cond z (changed c (bufferAt (p .size) o)) idle) idle) n ∙ never-told (eqb (mappedOf c d t o l .number) 0) (changed c (bufferAt (p .size) o));
+          fits = tt;
+          foretold = tt;
+          timely = tt;
+          ready = ap (λ (z : Setup). eqb (z .ready) 0) (mapped-chosen c d t o l .0) ∙ safe .ready;
+          tied = subst (λ (w : World). Tied w p) (sym (turned-view t o l (streamOf k d) (other-mapped k c d t o l n))) (safe .kept .tied);
+          sized = chosen-sized k b p safe (mappedOf c d t o l .state) (mapped-chosen c d t o l .0);
+          long = refl;
+        }
 
 -- ---- any call
 
@@ -275,6 +338,11 @@ goes k b p (arrival t f x y other) safe = go (eqb t (typeOf k)) refl
     go : (v : Bool) → eqb t (typeOf k) ≡ v → Goes k b p (arrival t f x y other)
     go true e = subst (λ (n : ℕ). Goes k b p (arrival n f x y other)) (sym (eqb-true t (typeOf k) e)) (goes-own k b p safe f x y other)
     go false e = goes-other k b p safe f x y other t e
+goes k b p (change c t o l) safe = go (eqb t (typeOf k)) refl
+  where
+    go : (v : Bool) → eqb t (typeOf k) ≡ v → Goes k b p (change c t o l)
+    go true e = subst (λ (n : ℕ). Goes k b p (change c n o l)) (sym (eqb-true t (typeOf k) e)) (turns-own k b p safe c o l)
+    go false e = turns-other k b p safe c o l t e
 
 timed-filled : (i : List ℕ) (g : Frame) (o : List Pair) → All (λ x. Timed (x .frame .time)) o → Timed (g .time) → All (λ x. Timed (x .frame .time)) (filled i g o)
 timed-filled [] g o a t = a
@@ -292,6 +360,7 @@ timed-step p handed a t = timed-rest (p .outgoing) a
 timed-step p begun a t = a
 timed-step p (ended n) a t = tt
 timed-step p (sized n) a t = a
+timed-step p (changed c j) a t = a
 timed-step p idle a t = a
 
 pub fits-next : (k : Kind) (b : Box) (p : Paper) (c : Call) → Safe k b p → Fits p (told k p c (seen b c))

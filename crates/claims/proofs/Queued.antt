@@ -3,7 +3,7 @@ use mathlib.Core.Path.{_≡_, refl, sym, ap, ap₂, _∙_, subst}
 use borrow.Author.Tests.{ne-eqb}
 use Rattle.stream_words.specs.declared.Time.{Time}
 use mathlib.Core.Bool.{Bool, true, false, cond}
-use Prim.Native.Nat.{ℕ, _+_, _*_}
+use Prim.Native.Nat.{ℕ, _+_, _*_, _≤_}
 use native.Mathlib.Omega.{arith}
 use lib.Dec.{eqb, leb}
 use mathlib.Core.List.{List, [], _∷_, _++_}
@@ -20,10 +20,11 @@ use Rattle.stream_run.specs.Stream.{reduced}
 use Rattle.stream_arrival.specs.declared.Arrival.{Arrival}
 use Rattle.stream_arrival.specs.declared.Arrival.the-variants.{Refused, Stored}
 use Rattle.stream_arrival.specs.Arrivals.{writtenBy}
+use Rattle.stream_maps.specs.Maps.{isMapped}
 use Rattle.stream_status.specs.declared.Status.{Status}
 use Rattle.stream_status.specs.declared.Queried.the-variants as queries
 use Rattle.stream_verdict.specs.declared.Verdict.the-variants.{Running, Blank, Gaps, Complete}
-use Rattle.stream_status.specs.Buffer.{flagsFor, describedOf, statusOf, queryOf}
+use Rattle.stream_status.specs.Buffer.{flagsOf, describedOf, statusOf, queryOf}
 use Rattle.buffer_replies.specs.Replies.{bufferReply}
 use Rattle.buffer_replies.proofs.Lengths.{buffer-length, buffer-flags}
 use Rattle.device_state.specs.State.{State, closedState}
@@ -34,10 +35,10 @@ use Rattle.buffer_calls.specs.Buffers.{StreamAnswer}
 use Rattle.request_topics.specs.Request.{streamCall, callAnswer}
 use Rattle.device_film.specs.Film.{takenOf, takenMemory, frameSize}
 use Rattle.stream_history.specs.Paper.{Paper, blank, handedOver, noted, wholes, dequeues}
-use Rattle.stream_history.specs.Claims.{timesIn, timesOut}
+use Rattle.stream_history.specs.Claims.{mappedOn, timesIn, timesOut}
 use Rattle.stream_history.proofs.Machine.{leaves-append, noted-tells}
 use Rattle.claims.specs.Calls.{Kind, typeOf, Call, Reply, arrivalTime}
-use Rattle.claims.specs.Calls.Call.{request, arrival}
+use Rattle.claims.specs.Calls.Call.{request, arrival, change}
 use Rattle.claims.specs.Calls.Reply.{answered, taken}
 use Rattle.claims.specs.Machine.{more}
 use Rattle.claims.specs.Words.{told, openingSize, eventsIn, paperIn, handedIn}
@@ -51,7 +52,7 @@ use Rattle.claims.proofs.Boxes.{Box, opened, asks, arrives, reply, seen
 use Rattle.claims.proofs.Steps.{whole-reply}
 use Rattle.claims.proofs.Formats.{Reached, reached}
 use Rattle.claims.proofs.Arrivals.{taken-is}
-use Rattle.claims.proofs.Totals.{history-equation, within-limit, one-place}
+use Rattle.claims.proofs.Totals.{history-equation, within-limit, mapped-tallied, one-place}
 use Rattle.claims.proofs.Demand.{demand-3, verdict-means}
 use Rattle.claims.proofs.Lists as lists
 use Rattle.claims.proofs.Lists.{Since, one-more, same-seen, same-events, same-paper}
@@ -82,7 +83,12 @@ refused-length Kind.pictures d l f t e n = taken-is d 1 l f t .0 ∙ rw (e, n)
 refused-length Kind.captions d l f t e n = taken-is d 6 l f t .0 ∙ rw (e, n)
 
 -- with these flags
-status-flags : (x : Stream) (i size : ℕ) → statusOf x i size .flags ≡ flagsFor (standingOf (x .queues) i)
+-- a flag is 0 or 1
+mapped-most : (b : Bool) → cond b 1 0 ≤ 1
+mapped-most true = omega arith
+mapped-most false = omega arith
+
+status-flags : (x : Stream) (i size : ℕ) → statusOf x i size .flags ≡ flagsOf (isMapped (x .maps) i) (standingOf (x .queues) i)
 unfolding statusOf describedOf
 status-flags x i size = refl
 
@@ -223,6 +229,7 @@ module _ (s : List ℕ) (m : Kind → List ℕ) (k : Kind) where
     lends = lends;
     begins = refl;
     asks = λ cs w a. ap (λ (b : Box). b .memory k) (one-more s m cs (request w a));
+    maps = λ cs c t o l. ap (λ (b : Box). b .memory k) (one-more s m cs (change c t o l));
     writes = writes;
     elsewhere = λ cs t f x y other n.
         ap (λ (b : Box). b .memory k) (one-more s m cs (arrival t f x y other))
@@ -231,7 +238,7 @@ module _ (s : List ℕ) (m : Kind → List ℕ) (k : Kind) where
 
   -- ---- the flags that QUERYBUF answers
   flags-told : (cs : List Call) (w : ℕ) (a : List ℕ) → requestOf w .call ≡ Querybuf → wordAt a 4 ≡ typeOf k → ours s m .request cs w a .number ≡ 0
-      → wordAt (ours s m .request cs w a .argument) 12 ≡ 2 * timesIn (paperIn s (ours s m) k cs) (wordAt a 0) + 4 * timesOut (paperIn s (ours s m) k cs) (wordAt a 0)
+      → wordAt (ours s m .request cs w a .argument) 12 ≡ mappedOn (paperIn s (ours s m) k cs) (wordAt a 0) + 2 * timesIn (paperIn s (ours s m) k cs) (wordAt a 0) + 4 * timesOut (paperIn s (ours s m) k cs) (wordAt a 0)
   flags-told cs w a e nm h =
       let b : Box = boxAfter s m cs in
       let q : Reached (b .sheet) (b .state) w a = reached (b .sheet) (b .state) w a h in
@@ -242,11 +249,11 @@ module _ (s : List ℕ) (m : Kind → List ℕ) (k : Kind) where
       (stream-argument querybufOf 4 (b .state) a (ap (λ (r : Answer). r .number) (sym is) ∙ h)) in
       let (x, y, z) = one-place s m k cs (wordAt a 0) in
       let st : Status = statusOf (streamOf k (b .state)) (wordAt a 0) (sizeOf k (b .state)) in
-      let fl : st .flags ≡ 2 * timesIn (paperAfter s m k cs) (wordAt a 0) + 4 * timesOut (paperAfter s m k cs) (wordAt a 0) = status-flags (streamOf k (b .state)) (wordAt a 0) (sizeOf k (b .state)) ∙ z in
+      let fl : st .flags ≡ mappedOn (paperAfter s m k cs) (wordAt a 0) + 2 * timesIn (paperAfter s m k cs) (wordAt a 0) + 4 * timesOut (paperAfter s m k cs) (wordAt a 0) = status-flags (streamOf k (b .state)) (wordAt a 0) (sizeOf k (b .state)) ∙ z in
       ap (λ (r : Answer). wordAt (r .argument) 12) is
       ∙ ap (λ (l : List ℕ). wordAt l 12) (v ∙ querybuf-answers (streamOf k (b .state)) (typeOf k) (sizeOf k (b .state)) a (q .long ∙ ap argumentSize e) n)
-      ∙ buffer-flags (typeOf k) st (omega (arith, x, fl))
-      ∙ fl ∙ ap (λ (p : Paper). 2 * timesIn p (wordAt a 0) + 4 * timesOut p (wordAt a 0)) (sym (same-paper s m k cs))
+      ∙ buffer-flags (typeOf k) st (omega (arith, x, fl, mapped-most (isMapped (paperAfter s m k cs .maps) (wordAt a 0))))
+      ∙ fl ∙ ap (λ (p : Paper). mappedOn p (wordAt a 0) + 2 * timesIn p (wordAt a 0) + 4 * timesOut p (wordAt a 0)) (sym (same-paper s m k cs))
 
   pub told-counts : Counts s (ours s m) k
   told-counts = record {
@@ -255,6 +262,9 @@ module _ (s : List ℕ) (m : Kind → List ℕ) (k : Kind) where
     within = λ cs. rw (same-paper s m k cs) (within-limit s m k cs);
     once = λ cs i. rw (same-paper s m k cs) (one-place s m k cs i .0);
     beyond = λ cs i. rw (same-paper s m k cs) (one-place s m k cs i .1);
+    tallied = λ cs i. rw (same-paper s m k cs, same-events s m k cs [] (blank (openingSize s k))) (mapped-tallied s m k cs i .0);
+    most = λ cs i. rw (same-paper s m k cs) (mapped-tallied s m k cs i .1);
+    spare = λ cs i. rw (same-paper s m k cs) (mapped-tallied s m k cs i .2);
     flags = flags-told;
     running = λ cs. rw (same-paper s m k cs) (verdict-means s m k cs Running);
     blank = λ cs. rw (same-paper s m k cs) (verdict-means s m k cs Blank);

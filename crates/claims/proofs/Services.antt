@@ -46,7 +46,7 @@ use Rattle.claims.specs.Words.{told}
 use Rattle.device_opening.specs.Opening.{Opened, longestMemory, closedBy, openedOf}
 use Rattle.device_film.specs.Film.{Taken, taken as takes, pictureArrives, captionsArrive, takenOf}
 use Rattle.claims.specs.Calls.{Kind, Call, Reply, arrivalTime}
-use Rattle.claims.specs.Calls.Call.{request, arrival}
+use Rattle.claims.specs.Calls.Call.{request, arrival, change}
 use Rattle.claims.specs.Calls.Reply.{answered, taken}
 use Rattle.claims.specs.Machine.{more, replyIn}
 use Rattle.claims.specs.Table.{named}
@@ -55,6 +55,7 @@ use Rattle.claims.proofs.Sessions.{every, desk-more}
 use Rattle.claims.proofs.Boxes.{Box, opened, asks, reply, seen, next, boxAfter, ours}
 use Rattle.claims.proofs.Steps.{whole-reply}
 use Rattle.claims.proofs.Formats.{Reached, reached, of-stream, set-pictures, set-captions}
+use Rattle.claims.proofs.Mapping.{mapped-chosen}
 use Rattle.claims.proofs.Honest.{honest-request}
 
 module _ (s : List ℕ) (d : State) (a : List ℕ) where
@@ -201,6 +202,7 @@ module _ (s : List ℕ) (m : Kind → List ℕ) where
           ∙ sym (call-services s (b .sheet) (b .state) a q e (requestOf w .call) (r .long) h) ∙ ap (λ (v : Answer). v .state .services) (sym (r .is))
       go false z = e ∙ ap (λ (v : State). v .services) (sym (honest-request (b .state) a (b .sheet) w .unchanged (eqb-false (asks b w a .number) 0 z) .0))
   one-more cs (arrival t f x y other) q e = e ∙ sym (taken-services (boxAfter s m cs .state) t _ f (arrivalTime x y))
+  one-more cs (change c t o l) q e = e ∙ sym (mapped-chosen c (boxAfter s m cs .state) t o l .1)
 
   pub same-services : (cs : List Call) → deskIn s (ours s m) cs .services ≡ boxAfter s m cs .state .services
   same-services = every (λ cs. deskIn s (ours s m) cs .services ≡ boxAfter s m cs .state .services) (sym at-first)

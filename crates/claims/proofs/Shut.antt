@@ -5,7 +5,7 @@ use Prim.Native.Nat.{ℕ, _≤_}
 use native.Mathlib.Omega.{arith}
 use borrow.Author.Tests.{ltb-false}
 use lib.Dec.{eqb, ltb}
-use mathlib.Core.List.{List}
+use mathlib.Core.List.{List, [], _∷_}
 use lib.ListN.{length}
 use Rattle.ioctl_table.specs.declared.refusals.Refusal.{Refusal}
 use Rattle.ioctl_table.specs.declared.refusals.Refusal.the-variants.{BadSheet, MemoryTooLong}
@@ -20,13 +20,15 @@ use Rattle.device_state.specs.State.{State, closedState, openingState}
 use Rattle.device_opening.specs.Opening.{Opened}
 use Rattle.device_opening.specs.Opening.{longestMemory, closedBy, openedOf}
 use Rattle.request_topics.specs.Request.{requestAnswer}
+use Rattle.stream_maps.specs.declared.Change.{Change}
+use Rattle.device_maps.specs.Mapping.{mappedOf}
 use Rattle.device_film.specs.Film.{takenOf}
-use Rattle.stream_history.specs.Paper.{Paper, blank, step, noted}
+use Rattle.stream_history.specs.Paper.{Event, changes, Paper, blank, step, noted}
 use Rattle.stream_history.specs.Paper.Event.{idle}
 use Rattle.stream_history.proofs.Sound.{sound-blank}
 use Rattle.stream_history.proofs.Tied.{tied-opened}
 use Rattle.stream_history.proofs.Machine.{keeps-after}
-use Rattle.claims.specs.Calls.Call.{request, arrival}
+use Rattle.claims.specs.Calls.Call.{request, arrival, change}
 use Rattle.claims.specs.Calls.{Reply}
 use Rattle.claims.specs.Calls.Reply.{answered}
 use Rattle.claims.proofs.Steps.{Safe}
@@ -53,10 +55,11 @@ either-idle true = refl
 either-idle false = refl
 
 -- no call tells a stream anything, and none changes the device
-shut-next : (k : Kind) (b : Box) (p : Paper) (c : Call) → Shut b → (next b c .state ≡ b .state) × (told k p c (seen b c) ≡ idle)
-unfolding takenOf
+pub shut-next : (k : Kind) (b : Box) (p : Paper) (c : Call) → Shut b → (next b c .state ≡ b .state) × (told k p c (seen b c) ≡ idle)
+unfolding takenOf mappedOf
 shut-next k b p (request w a) h = (shut-state b w a h, ap (λ (r : Reply). told k p (request w a) (r, b .state .services)) (shut-request b w a h))
 shut-next k b p (arrival t f x y other) h = (rw h, rw h (either-idle (eqb t (typeOf k))))
+shut-next k b p (change c t o l) h = (rw h, rw h)
 
 -- after any calls it is as it was, and the paper too
 pub shut-after : (k : Kind) (cs : List Call) (b : Box) (p : Paper) → Shut b → (after b cs .state ≡ b .state) × (noted p (events k b p cs) ≡ p)
@@ -69,6 +72,13 @@ shut-after k cs b p h = keeps-after seen next (told k) Same same cs b p (refl, r
     same c q x (e, f) =
         let (u, v) = shut-next k c q x (ap (λ (d : State). eqb (d .ready) 0) e ∙ h) in
         (u ∙ e, ap (step q) v ∙ f)
+
+-- nothing is mapped or unmapped
+pub shut-unmapped : (k : Kind) (c : Change) (i : ℕ) (cs : List Call) (b : Box) (p : Paper) → Shut b → changes c i (events k b p cs) ≡ 0
+shut-unmapped k c i [] b p h = refl
+shut-unmapped k c i (x ∷ cs) b p h =
+    let (u, v) = shut-next k b p x h in
+    ap (λ (e : Event). changes c i (e ∷ events k (next b x) (step p e) cs)) v ∙ shut-unmapped k c i cs (next b x) p (ap (λ (d : State). eqb (d .ready) 0) u ∙ h)
 
 -- ---- opening
 

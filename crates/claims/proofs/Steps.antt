@@ -1,5 +1,5 @@
 -- Every call on an open device is a call on a stream of it, or leaves that stream alone.
-use mathlib.Core.Path.{_≡_, refl, sym, ap, _∙_, subst}
+use mathlib.Core.Path.{_≡_, refl, sym, ap, ap₂, _∙_, subst}
 use mathlib.Core.Bool.{Bool, true, false, cond, not, _&&_, true≢false}
 use Prim.Native.Nat.{ℕ, _^_, _≤_, _<_}
 use native.Mathlib.Omega.{arith}
@@ -14,7 +14,7 @@ use Rattle.wire_read.proofs.Stores.{sets-all}
 use Rattle.ioctl_table.specs.Refusal.{errnoOf}
 use Rattle.ioctl_table.specs.Table.{argumentSize, requestOf}
 use Rattle.ioctl_table.specs.declared.refusals.Refusal.{Refusal}
-use Rattle.ioctl_table.specs.declared.refusals.Refusal.the-variants.{Streaming as busy, NoSuchIndex, NoSuchControl, BuffersExist, Closed, UnknownWord, ArgumentLength, WrongType, WrongMemory}
+use Rattle.ioctl_table.specs.declared.refusals.Refusal.the-variants.{Streaming as busy, StillMapped, NoSuchIndex, NoSuchControl, BuffersExist, Closed, UnknownWord, ArgumentLength, WrongType, WrongMemory}
 use Rattle.ioctl_table.specs.declared.table.Call.{Call as Asked}
 use Rattle.ioctl_table.specs.declared.table.Call.the-variants.{Unknown, Querycap, EnumFmt, GFmt, SFmt, TryFmt, Reqbufs, Querybuf, Qbuf, Dqbuf, Streamon, Streamoff, GCtrl, SCtrl, Queryctrl, Cropcap, GCrop, SCrop, GSlicedVbiCap}
 use Rattle.ioctl_table.proofs.Numbers.{errno-positive}
@@ -27,6 +27,7 @@ use Rattle.negotiation_rules.specs.Answer.{pictureWords}
 use Rattle.negotiation_rules.proofs.Reply.{reply-length, reply-word}
 use Rattle.stream_words.specs.declared.Time.{Time}
 use Rattle.stream_words.specs.declared.Filled.{Filled}
+use Rattle.stream_maps.specs.Maps.{anyMapped}
 use Rattle.stream_run.specs.declared.Reply.{Reply as StreamReply}
 use Rattle.stream_run.specs.declared.Reply.the-variants as replies
 use Rattle.stream_run.specs.Switches.{Step}
@@ -34,6 +35,7 @@ use Rattle.stream_words.specs.Stream.{Stream}
 use Rattle.stream_run.specs.Stream.{reduced, streaming, stopped}
 use Rattle.stream_run.specs.Switches.{answers, refuses, grantOf, requestBuffersOf as bufferRequest, startOf, stopOf}
 use Rattle.stream_queue.specs.Queueing.{enqueueOf, dequeueOf}
+use Rattle.stream_queue.proofs.Maps.{dequeue-maps}
 use Rattle.stream_run.specs.Numbers.{replyNumber}
 use Rattle.stream_run.proofs.Grants.{grant-few}
 use Rattle.stream_status.specs.declared.Queried.{Queried}
@@ -70,7 +72,7 @@ use Rattle.stream_history.specs.Calls.{Call as StreamCall, World, sizeReply}
 use Rattle.stream_history.specs.Calls.Call.{request as asks-for, enqueue as hands-in, dequeue as takes-out, start as starts, stop as stops, resize as resizes}
 use Rattle.stream_history.specs.Calls.Answer.{replied}
 use Rattle.stream_history.specs.Paper.{Paper, Event, refusedReply, grantIn, repliedTold, step}
-use Rattle.stream_history.specs.Paper.Event.{put, whole, damaged, handed, begun, ended, sized, idle}
+use Rattle.stream_history.specs.Paper.Event.{put, whole, damaged, handed, begun, ended, sized, changed, idle}
 use Rattle.stream_history.proofs.Lists.{All}
 use Rattle.stream_history.proofs.Sound.{Fits}
 use Rattle.stream_history.proofs.Tied.{Tied, Answers, Follows, placedAs, firstOf, follows}
@@ -112,10 +114,11 @@ abbrev pub Foretold : Kind → Paper → Event → Reply → Type 0
 Foretold k p (put i) r = Unit {0}
 Foretold k p (whole b t) r = r ≡ taken (placedAs (p .incoming) (reduced (p .run .accepted)))
 Foretold k p damaged r = Unit {0}
-Foretold k p handed r = r ≡ answered 0 (bufferReply (typeOf k) (returnedOf (firstOf (p .outgoing)) (p .size)))
+Foretold k p handed r = r ≡ answered 0 (bufferReply (typeOf k) (returnedOf (p .maps) (firstOf (p .outgoing)) (p .size)))
 Foretold k p begun r = Unit {0}
 Foretold k p (ended n) r = Unit {0}
 Foretold k p (sized n) r = Unit {0}
+Foretold k p (changed c j) r = Unit {0}
 Foretold k p idle r = Unit {0}
 
 -- an arrival has a time of 32 bits
@@ -127,6 +130,7 @@ Timely handed = Unit {0}
 Timely begun = Unit {0}
 Timely (ended n) = Unit {0}
 Timely (sized n) = Unit {0}
+Timely (changed c j) = Unit {0}
 Timely idle = Unit {0}
 
 -- the box after a request
@@ -158,7 +162,7 @@ accepted-number (replies.Returned g) h = refl
 accepted-number (replies.Refused why) h = absurd (true≢false h)
 
 -- a test that fails has nothing behind it
-never-told : (x : Bool) (v : Event) → cond x (cond false v idle) idle ≡ idle
+pub never-told : (x : Bool) (v : Event) → cond x (cond false v idle) idle ≡ idle
 never-told true v = refl
 never-told false v = refl
 
@@ -302,17 +306,18 @@ whole-reply a v n e f = sets-all v a (e ∙ sym f)
 pub told-count : (s : Stream) (n kind size : ℕ) (a : List ℕ) → length a ≡ 20 → refusedReply (bufferRequest s n size .reply) ≡ false
     → wordAt (requestReply (bufferRequest s n size .reply) kind a) 0 ≡ grantIn (bufferRequest s n size .reply)
 unfolding bufferRequest
-told-count s n kind size a l = go (streaming s && not (eqb n 0))
+told-count s n kind size a l = go (anyMapped (s .maps)) (streaming s && not (eqb n 0))
   where
     g : ℕ
     g = grantOf (s .length) n size
 
-    r : Bool → Step
-    r x = cond x (refuses busy s) (answers (replies.Granted (grantOf (s .length) n size)) (stopped s (grantOf (s .length) n size)))
+    r : Bool → Bool → Step
+    r x y = cond x (refuses StillMapped s) (cond y (refuses busy s) (answers (replies.Granted (grantOf (s .length) n size)) (stopped s (grantOf (s .length) n size))))
 
-    go : (x : Bool) → refusedReply (r x .reply) ≡ false → wordAt (requestReply (r x .reply) kind a) 0 ≡ grantIn (r x .reply)
-    go true h = absurd (true≢false h)
-    go false h =
+    go : (x y : Bool) → refusedReply (r x y .reply) ≡ false → wordAt (requestReply (r x y .reply) kind a) 0 ≡ grantIn (r x y .reply)
+    go true y h = absurd (true≢false h)
+    go false true h = absurd (true≢false h)
+    go false false h =
         ap (λ (v : List ℕ). wordAt v 0) (whole-reply a (buffersReply kind g) 20 l (buffers-length kind g))
         ∙ buffers-count kind g (omega (arith, grant-few (s .length) n size))
 
@@ -360,21 +365,21 @@ module _ (k : Kind) (b : Box) (p : Paper) (a : List ℕ) (safe : Safe k b p) whe
       (follows (view k b) p (hands-in (wordAt a 0)) (safe .kept .tied) (safe .kept .sound)) (λ ok. refl) tt (λ ok f. tt))
 
   -- the buffer that DQBUF answers is the first outgoing one
-  told-buffer : length a ≡ 68 → (r : StreamReply) → replied r ≡ replied (replies.Returned (firstOf (p .outgoing)))
-      → answered 0 (dequeueReply r (typeOf k) (sizeOf k (b .state)) a) ≡ answered 0 (bufferReply (typeOf k) (returnedOf (firstOf (p .outgoing)) (p .size)))
-  told-buffer l r e =
+  told-buffer : length a ≡ 68 → (r : StreamReply) (x : Stream) → x .maps ≡ p .maps → replied r ≡ replied (replies.Returned (firstOf (p .outgoing)))
+      → answered 0 (dequeueReply r x (typeOf k) (sizeOf k (b .state)) a) ≡ answered 0 (bufferReply (typeOf k) (returnedOf (p .maps) (firstOf (p .outgoing)) (p .size)))
+  told-buffer l r x m e =
       let size : ℕ = sizeOf k (b .state) in
       let f : Filled = firstOf (p .outgoing) in
       let same : r ≡ replies.Returned f = cc e in
-      ap (λ (z : StreamReply). answered 0 (dequeueReply z (typeOf k) size a)) same
-      ∙ ap (answered 0) (whole-reply a (bufferReply (typeOf k) (returnedOf f size)) 68 l (buffer-length (typeOf k) (returnedOf f size)))
-      ∙ ap (λ (n : ℕ). answered 0 (bufferReply (typeOf k) (returnedOf f n))) (safe .kept .tied .size)
+      ap (λ (z : StreamReply). answered 0 (dequeueReply z x (typeOf k) size a)) same
+      ∙ ap (answered 0) (whole-reply a (bufferReply (typeOf k) (returnedOf (x .maps) f size)) 68 l (buffer-length (typeOf k) (returnedOf (x .maps) f size)))
+      ∙ ap₂ (λ (v : List ℕ) (n : ℕ). answered 0 (bufferReply (typeOf k) (returnedOf v f n))) m (safe .kept .tied .size)
 
   does-dqbuf : length a ≡ 68 → own 4 → Does k b p Dqbuf a (byKind k (b .state) (dqbufOf (streamOf k (b .state)) (typeOf k) (sizeOf k (b .state)) a))
   unfolding dqbufOf
   does-dqbuf l n = remembers Dqbuf (not (eqb (wordAt a 48) 1)) _
       (stepping k b p Dqbuf a safe n takes-out (dequeueOf (streamOf k (b .state))) _
-      (follows (view k b) p takes-out (safe .kept .tied) (safe .kept .sound)) (λ ok. refl) tt (λ ok f. told-buffer l _ f))
+      (follows (view k b) p takes-out (safe .kept .tied) (safe .kept .sound)) (λ ok. refl) tt (λ ok f. told-buffer l _ _ (dequeue-maps (streamOf k (b .state)) ∙ safe .kept .tied .maps) f))
 
   does-streamon : own 0 → Does k b p Streamon a (byKind k (b .state) (streamonOf (streamOf k (b .state)) (typeOf k) (sizeOf k (b .state)) a))
   unfolding streamonOf

@@ -27,6 +27,7 @@ use Rattle.control_value_rules.specs.declared.Setting.{Setting}
 use Rattle.control_value_rules.specs.declared.Setting.the-variants as settings
 use Rattle.stream_words.specs.Stream.{Stream}
 use Rattle.stream_words.specs.Moves.{isIncoming, isOutgoing}
+use Rattle.stream_maps.specs.Maps.{anyMapped}
 use Rattle.stream_run.specs.Stream.{streaming}
 use Rattle.device_state.specs.State.{State}
 use Rattle.device_state.specs.Answers.{Answer, refused, byType}
@@ -112,7 +113,7 @@ module _ (s : List ℕ) (d : State) (a : List ℕ) where
       (services-check (not (eqb (d .captions .queues .granted) 0)) BuffersExist d a _ 0 refl)
   call-number TryFmt = type-number 0 d a _ _ (λ k. 0) refl refl
   call-number Reqbufs =
-      stream-number reqbufsOf 4 d a (λ t. cond (not (eqb (wordAt a 8) 1)) 22 (cond (streaming t && not (eqb (wordAt a 0) 0)) 16 0)) (λ t kind size. reqbufs-number t kind size a)
+      stream-number reqbufsOf 4 d a (λ t. cond (not (eqb (wordAt a 8) 1)) 22 (cond (anyMapped (t .maps)) 16 (cond (streaming t && not (eqb (wordAt a 0) 0)) 16 0))) (λ t kind size. reqbufs-number t kind size a)
   call-number Querybuf = stream-number querybufOf 4 d a (λ t. cond (leb (t .queues .granted) (wordAt a 0)) 22 0) (λ t kind size. querybuf-number t kind size a)
   call-number Qbuf =
       stream-number qbufOf 4 d a

@@ -2,7 +2,7 @@
 use mathlib.Core.Path.{_≡_, refl, sym, ap, ap₂, _∙_, fun-ext}
 use mathlib.Core.Logic.{_≢_}
 use mathlib.Core.Bool.{Bool, true, false, cond, not, _&&_, _||_, true≢false}
-use Prim.Native.Nat.{ℕ, _≤_}
+use Prim.Native.Nat.{ℕ, _≤_, min}
 use native.Mathlib.Omega.{arith}
 use borrow.Author.Tests.{eqb-true}
 use lib.Dec.{eqb}
@@ -11,7 +11,7 @@ use lib.ListN.{length, length-map}
 use Rattle.wire_read.specs.Words.{wordAt}
 use Rattle.ioctl_table.specs.Refusal.{errnoOf}
 use Rattle.ioctl_table.specs.Table.{requestOf, argumentSize}
-use Rattle.ioctl_table.specs.declared.refusals.Refusal.the-variants.{WrongType, WrongMemory, Streaming}
+use Rattle.ioctl_table.specs.declared.refusals.Refusal.the-variants.{WrongType, WrongMemory, StillMapped, Streaming}
 use Rattle.ioctl_table.specs.declared.table.Call.{Call as Asked}
 use Rattle.ioctl_table.specs.declared.table.Call.the-variants.{Unknown, Querycap, EnumFmt, GFmt, SFmt, TryFmt, Reqbufs, Querybuf, Qbuf, Dqbuf, Streamon, Streamoff, GCtrl, SCtrl, Queryctrl, Cropcap, GCrop, SCrop, GSlicedVbiCap}
 use Rattle.sheet_copy.specs.Copy.{keptOf}
@@ -22,6 +22,9 @@ use Rattle.control_place_rules.specs.Find.{present, placeOf, placeAbove, querie
 use Rattle.stream_words.specs.declared.Time.{Time}
 use Rattle.wire_read.specs.Lists.{any}
 use Rattle.stream_words.specs.Moves.{isIncoming, isOutgoing, ofBuffer}
+use Rattle.stream_slots.specs.Slot.{isSlot, bufferAt}
+use Rattle.stream_maps.specs.declared.Change.{Change}
+use Rattle.stream_maps.specs.Maps.{anyMapped}
 use Rattle.stream_run.specs.Stream.{streaming, stopped}
 use Rattle.stream_run.specs.Switches.{Step, grantOf, refuses, answers, requestBuffersOf as bufferRequest}
 use Rattle.stream_run.specs.declared.Reply.the-variants as replies
@@ -39,17 +42,18 @@ use Rattle.device_film.specs.Film.{takenOf, takenMemory, frameSize}
 use Rattle.stream_history.specs.Paper.{Pair, Paper, indexOf}
 use Rattle.stream_history.proofs.Tied.{entry}
 use Rattle.claims.specs.Calls.{Kind, typeOf, Call, arrivalTime}
-use Rattle.claims.specs.Calls.Call.{request, arrival}
+use Rattle.claims.specs.Calls.Call.{request, arrival, change}
 use Rattle.claims.specs.Machine.{NoTrace}
 use Rattle.claims.specs.Words.{papersIn}
 use Rattle.claims.specs.Device.{lentTo, keptOn, streamOf}
 use Rattle.claims.specs.Desk.{deskIn}
-use Rattle.claims.specs.Table.{firstNumber, kindOf, paperAt, queuedOn, tests, requestTests, arrivalTests, refusedBy, arrivedOn, arrivalNumber}
+use Rattle.claims.specs.Table.{firstNumber, kindOf, paperAt, queuedOn, tests, requestTests, arrivalTests, changeTests, refusedBy, arrivedOn, arrivalNumber}
 use Rattle.claims.specs.Demands.{Demand1}
 use Rattle.claims.proofs.Boxes.{Box, asks, paperAfter, boxAfter, ours}
-use Rattle.claims.proofs.Checks.{sizeOf, checks, requestChecks, arrivalChecks, arrivedBy}
+use Rattle.claims.proofs.Checks.{sizeOf, checks, requestChecks, arrivalChecks, changeChecks, arrivedBy}
 use Rattle.claims.proofs.Steps.{byKind, Safe, whole-reply, one-not-six}
 use Rattle.claims.proofs.Arrivals.{taken-is, written-refused, opening-number}
+use Rattle.claims.proofs.Mapping.{mapped-number, mapped-kept}
 use Rattle.claims.proofs.Honest.{honest-request}
 use Rattle.claims.proofs.Formats.{Reached, reached}
 use Rattle.claims.proofs.Table.{request-table}
@@ -97,7 +101,8 @@ module _ (s : List ℕ) (fits : length s ≤ 2688) (d : State) (P : Kind → Pap
     (granted : (k : Kind) → streamOf k d .queues .granted ≡ P k .granted)
     (running : (k : Kind) → streaming (streamOf k d) ≡ P k .running)
     (queued : (k : Kind) (i : ℕ) → (isIncoming (streamOf k d .queues) i || isOutgoing (streamOf k d .queues) i) ≡ queuedOn (P k) i)
-    (outgoing : (k : Kind) → length (streamOf k d .queues .outgoing) ≡ length (P k .outgoing)) where
+    (outgoing : (k : Kind) → length (streamOf k d .queues .outgoing) ≡ length (P k .outgoing))
+    (maps : (k : Kind) → streamOf k d .maps ≡ P k .maps) where
   same-tests : (call : Asked) → checks call (keptOf s) d a ≡ tests call s P a
   same-tests Unknown = refl
   same-tests Querycap = refl
@@ -105,7 +110,7 @@ module _ (s : List ℕ) (fits : length s ≤ 2688) (d : State) (P : Kind → Pap
   same-tests GFmt = refl
   same-tests SFmt = rw (granted (kindOf (wordAt a 0)))
   same-tests TryFmt = refl
-  same-tests Reqbufs = rw (running (kindOf (wordAt a 4)))
+  same-tests Reqbufs = rw (maps (kindOf (wordAt a 4)), running (kindOf (wordAt a 4)))
   same-tests Querybuf = rw (granted (kindOf (wordAt a 4)))
   same-tests Qbuf = rw (queued (kindOf (wordAt a 4)) (wordAt a 0), granted (kindOf (wordAt a 4)))
   same-tests Dqbuf = rw (outgoing (kindOf (wordAt a 4)), granted (kindOf (wordAt a 4)), running (kindOf (wordAt a 4)))
@@ -160,21 +165,22 @@ stream-argument f at d a h =
 pub reqbufs-answers : (x : Stream) (kind size : ℕ) (a : List ℕ) → length a ≡ 20 → reqbufsOf x kind size a .number ≡ 0
     → reqbufsOf x kind size a .argument ≡ buffersReply kind (grantOf (x .length) (wordAt a 0) size)
 unfolding reqbufsOf bufferRequest
-reqbufs-answers x kind size a l = go (not (eqb (wordAt a 8) 1)) (streaming x && not (eqb (wordAt a 0) 0))
+reqbufs-answers x kind size a l = go (not (eqb (wordAt a 8) 1)) (anyMapped (x .maps)) (streaming x && not (eqb (wordAt a 0) 0))
   where
     g : ℕ
     g = grantOf (x .length) (wordAt a 0) size
 
-    t : Bool → Step
-    t z = cond z (refuses Streaming x) (answers (replies.Granted (grantOf (x .length) (wordAt a 0) size)) (stopped x (grantOf (x .length) (wordAt a 0) size)))
+    t : Bool → Bool → Step
+    t u z = cond u (refuses StillMapped x) (cond z (refuses Streaming x) (answers (replies.Granted (grantOf (x .length) (wordAt a 0) size)) (stopped x (grantOf (x .length) (wordAt a 0) size))))
 
-    r : Bool → Bool → StreamAnswer
-    r y z = cond y (streamAnswer (errnoOf WrongMemory) x a) (stepped (t z) (requestReply (t z .reply) kind a))
+    r : Bool → Bool → Bool → StreamAnswer
+    r y u z = cond y (streamAnswer (errnoOf WrongMemory) x a) (stepped (t u z) (requestReply (t u z .reply) kind a))
 
-    go : (y z : Bool) → r y z .number ≡ 0 → r y z .argument ≡ buffersReply kind (grantOf (x .length) (wordAt a 0) size)
-    go true z h = absurd (omega (arith, h))
-    go false true h = absurd (omega (arith, h))
-    go false false h = whole-reply a (buffersReply kind g) 20 l (buffers-length kind g)
+    go : (y u z : Bool) → r y u z .number ≡ 0 → r y u z .argument ≡ buffersReply kind (grantOf (x .length) (wordAt a 0) size)
+    go true u z h = absurd (omega (arith, h))
+    go false true z h = absurd (omega (arith, h))
+    go false false true h = absurd (omega (arith, h))
+    go false false false h = whole-reply a (buffersReply kind g) 20 l (buffers-length kind g)
 
 -- ---- what an arrival is answered
 
@@ -192,7 +198,7 @@ table-told : (s : List ℕ) (b : Box) (P : Kind → Paper) (w : ℕ) (a : List �
     → requestChecks (b .sheet) (b .state) w a ≡ requestTests n s P w a
 table-told s b P w a n good z safe sheet =
     rw (sheet, safe Kind.pictures .ready, z)
-    (cc (same-tests s (short s good) (b .state) P a (λ k. safe k .kept .tied .holds .granted) (λ k. safe k .kept .tied .running) (λ k. on-queues k b (P k) (safe k)) (λ k. some-outgoing k b (P k) (safe k)) (requestOf w .call)))
+    (cc (same-tests s (short s good) (b .state) P a (λ k. safe k .kept .tied .holds .granted) (λ k. safe k .kept .tied .running) (λ k. on-queues k b (P k) (safe k)) (λ k. some-outgoing k b (P k) (safe k)) (λ k. safe k .kept .tied .maps) (requestOf w .call)))
 
 -- a closed device
 pub closed-ready : (d : State) → d ≡ closedState → d .ready ≡ 0
@@ -264,7 +270,27 @@ module _ (s : List ℕ) (m : Kind → List ℕ) where
           rw (answers-same (kindOf t) (boxAfter s m cs) (paperAfter s m (kindOf t) cs) (u (kindOf t) .safe) f (arrivalTime x y), u Kind.pictures .safe .ready, n, long, u (kindOf t) .safe .kept .tied .running, u (kindOf t) .safe .kept .tied .run)
       go (Since.bad n d p) = rw (n, closed-ready (boxAfter s m cs .state) d)
 
+  changes-told : (cs : List Call) (c : Change) (t o l : ℕ) → ours s m .change cs c t o l ≡ firstNumber (changeTests (ours s m .opening) (papersIn s (ours s m) cs) c t o l)
+  changes-told cs c t o l =
+      mapped-number c (boxAfter s m cs .state) t o l ∙ go (since s m cs)
+      ∙ ap (λ (P : Kind → Paper). firstNumber (changeTests (openedBy s m .number) P c t o l)) (sym (same-papers cs))
+    where
+      -- never more than 32 are granted
+      few : (n : ℕ) → n ≤ 32 → min n 32 ≡ n
+      few n h = omega arith
+
+      go : Since s m cs → firstNumber (changeChecks c (boxAfter s m cs .state) t o l) ≡ firstNumber (changeTests (openedBy s m .number) (λ k. paperAfter s m k cs) c t o l)
+      go (Since.good g n u) =
+          let safe = u (kindOf t) .safe in
+          rw (u Kind.pictures .safe .ready, n, safe .kept .tied .holds .granted, few (paperAfter s m (kindOf t) cs .granted) (safe .kept .sound .few), safe .kept .tied .size, safe .kept .tied .maps)
+      go (Since.bad n d p) = rw (n, closed-ready (boxAfter s m cs .state) d)
+
   -- a refusal leaves the box as it was
+  changes-kept : (cs : List Call) (c : Change) (t o l : ℕ) → ours s m .change cs c t o l ≢ 0 → NoTrace (ours s m) cs (change c t o l)
+  changes-kept cs c t o l h =
+      let b : Box = boxAfter s m cs in
+      no-trace s m cs (change c t o l) (ap (λ (d : State). record { sheet = b .sheet; state = d; memory = b .memory }) (mapped-kept c (b .state) t o l h))
+
   requests-kept : (cs : List Call) (w : ℕ) (a : List ℕ) → ours s m .request cs w a .number ≢ 0 → (ours s m .request cs w a .argument ≡ a) × NoTrace (ours s m) cs (request w a)
   requests-kept cs w a h =
       let b : Box = boxAfter s m cs in
@@ -309,8 +335,10 @@ module _ (s : List ℕ) (m : Kind → List ℕ) where
     opening = opening-number s (length (m Kind.pictures)) (length (m Kind.captions));
     requests = requests-told;
     arrivals = arrivals-told;
+    changes = changes-told;
     kept = requests-kept;
     passed = arrivals-kept;
+    unturned = changes-kept;
     long = λ cs w a. honest-request (boxAfter s m cs .state) a (boxAfter s m cs .sheet) w .long;
     grants = grants-told;
   }

@@ -18,8 +18,9 @@ use Rattle.stream_words.specs.Stream.{Queues}
 use Rattle.stream_words.specs.Moves.{noFrame, standingOf}
 use Rattle.stream_run.specs.Stream.{reduced}
 use Rattle.stream_run.specs.Switches.{grantOf}
+use Rattle.stream_maps.specs.Maps.{isMapped}
 use Rattle.stream_status.specs.declared.Status.{Status}
-use Rattle.stream_status.specs.Buffer.{flagsFor, frameFor, describedOf, returnedOf}
+use Rattle.stream_status.specs.Buffer.{flagsOf, frameFor, describedOf, returnedOf}
 use Rattle.format_replies.specs.Replies.{capabilityReply, descriptionReply}
 use Rattle.buffer_replies.specs.Replies.{buffersReply, bufferReply}
 use Rattle.control_replies.specs.Replies.{controlReply, valueReply}
@@ -40,9 +41,9 @@ filledOn x = record { index = x .index; number = reduced (x .frame .place); used
 abbrev pub queuesOn : Paper → Queues
 queuesOn p = record { granted = p .granted; incoming = p .incoming; outgoing = map filledOn (p .outgoing) }
 
--- buffer k as it stands on the paper
+-- buffer k as it stands on the paper, mapped or not
 abbrev pub statusOn : Paper → ℕ → Status
-statusOn p k = describedOf k (flagsFor (standingOf (queuesOn p) k)) (frameFor (standingOf (queuesOn p) k)) (p .size)
+statusOn p k = describedOf k (flagsOf (isMapped (p .maps) k) (standingOf (queuesOn p) k)) (frameFor (standingOf (queuesOn p) k)) (p .size)
 
 -- the first outgoing buffer
 abbrev pub firstOn : List Pair → Filled
@@ -62,7 +63,7 @@ answerOn s n P q Reqbufs a = buffersReply (wordAt a 4) (grantOf (n (kindOf (word
 answerOn s n P q Querybuf a = bufferReply (wordAt a 4) (statusOn (paperAt P a 4) (wordAt a 0))
 -- the buffer as it is then: incoming
 answerOn s n P q Qbuf a = bufferReply (wordAt a 4) (statusOn (step (paperAt P a 4) (put (wordAt a 0))) (wordAt a 0))
-answerOn s n P q Dqbuf a = bufferReply (wordAt a 4) (returnedOf (firstOn (paperAt P a 4 .outgoing)) (paperAt P a 4 .size))
+answerOn s n P q Dqbuf a = bufferReply (wordAt a 4) (returnedOf (paperAt P a 4 .maps) (firstOn (paperAt P a 4 .outgoing)) (paperAt P a 4 .size))
 answerOn s n P q Streamon a = a
 answerOn s n P q Streamoff a = a
 answerOn s n P q GCtrl a = valueReply (wordAt a 0) (getD (q .values) (placeOf s (wordAt a 0)) 0)

@@ -21,19 +21,22 @@ use Rattle.service_replies.specs.Services.{linesAt}
 use Rattle.stream_slots.specs.Slot.{slotOffset}
 use Rattle.stream_run.specs.Switches.{grantOf}
 use Rattle.stream_arrival.specs.declared.Arrival.the-variants.{Stored}
+use Rattle.stream_maps.specs.declared.Change.{Change}
+use Rattle.stream_maps.specs.declared.Change.the-variants.{Map, Unmap}
+use Rattle.stream_maps.specs.Maps.{mostMaps, mapsOf}
 use Rattle.stream_run.specs.Stream.{reduced}
 use Rattle.stream_arrival.specs.Arrivals.{runLimit, writtenBy}
 use Rattle.stream_verdict.specs.declared.Verdict.the-variants.{Running, Blank, Gaps, Complete}
-use Rattle.stream_history.specs.Paper.{Event, wholes, dequeues, Calm}
+use Rattle.stream_history.specs.Paper.{Event, wholes, dequeues, changes, Calm}
 use Rattle.stream_history.specs.Paper.Event.{whole}
-use Rattle.stream_history.specs.Claims.{_⇔_, timesIn, timesOut, AllHandedOver}
+use Rattle.stream_history.specs.Claims.{_⇔_, mappedOn, timesIn, timesOut, AllHandedOver}
 use Rattle.claims.specs.Calls.{Kind, typeOf, Call, arrivalTime}
-use Rattle.claims.specs.Calls.Call.{request, arrival}
+use Rattle.claims.specs.Calls.Call.{request, arrival, change}
 use Rattle.claims.specs.Machine.{Session, more, NoTrace}
-use Rattle.claims.specs.Words.{told, seenIn, eventsIn, paperIn, papersIn, handedIn}
+use Rattle.claims.specs.Words.{told, seenIn, eventsIn, historyIn, paperIn, papersIn, handedIn}
 use Rattle.claims.specs.Desk.{deskIn}
 use Rattle.claims.specs.Answers.{answerOn, planeOn}
-use Rattle.claims.specs.Table.{firstNumber, kindOf, paperAt, openingTests, requestTests, arrivalTests, refusedBy, arrivedOn, arrivalNumber}
+use Rattle.claims.specs.Table.{firstNumber, kindOf, paperAt, openingTests, requestTests, arrivalTests, changeTests, refusedBy, arrivedOn, arrivalNumber}
 
 -- ---- demand 1: every call is answered by the table, and a refusal leaves no trace
 
@@ -46,10 +49,14 @@ pub record Demand1 (s : List ℕ) (m : Kind → List ℕ) (S : Session) : Type 0
   pub arrivals : (cs : List Call) (t : ℕ) (f : List ℕ) (x y : ℕ) (other : List ℕ)
       → S .arrival cs t f x y other ≡ refusedBy (arrivalTests (S .opening) (λ k. length (m k)) (papersIn s S cs) t (length other))
       (arrivedOn (kindOf t) (papersIn s S cs (kindOf t)) (deskIn s S cs .services) f (arrivalTime x y))
+  -- every map and every unmap gives the number of the table
+  pub changes : (cs : List Call) (c : Change) (t o l : ℕ) → S .change cs c t o l ≡ firstNumber (changeTests (S .opening) (papersIn s S cs) c t o l)
   -- a refused request leaves its argument, and no trace
   pub kept : (cs : List Call) (w : ℕ) (a : List ℕ) → S .request cs w a .number ≢ 0 → (S .request cs w a .argument ≡ a) × NoTrace S cs (request w a)
   -- nor does a refused arrival
   pub passed : (cs : List Call) (t : ℕ) (f : List ℕ) (x y : ℕ) (other : List ℕ) → arrivalNumber (S .arrival cs t f x y other) ≢ 0 → NoTrace S cs (arrival t f x y other)
+  -- nor does a refused map or unmap
+  pub unturned : (cs : List Call) (c : Change) (t o l : ℕ) → S .change cs c t o l ≢ 0 → NoTrace S cs (change c t o l)
   -- an argument keeps its length: nothing is written beyond it
   pub long : (cs : List Call) (w : ℕ) (a : List ℕ) → length (S .request cs w a .argument) ≡ length a
   -- an accepted buffer request grants the least of the count, 32 and the length of its stream's memory divided by the slot
@@ -170,6 +177,7 @@ pub record Demand3 (s : List ℕ) (m : Kind → List ℕ) (S : Session) (k : Kin
   -- its memory is as it was lent, until an arrival of its type is answered stored: that writes its bytes at the start of its slot, and nothing else does
   pub begins : S .memory k [] ≡ m k
   pub asks : (cs : List Call) (w : ℕ) (a : List ℕ) → S .memory k (more cs (request w a)) ≡ S .memory k cs
+  pub maps : (cs : List Call) (c : Change) (t o l : ℕ) → S .memory k (more cs (change c t o l)) ≡ S .memory k cs
   pub writes : (cs : List Call) (f : List ℕ) (x y : ℕ) (other : List ℕ)
       → S .memory k (more cs (arrival (typeOf k) f x y other)) ≡ writtenBy (S .arrival cs (typeOf k) f x y other) (paperIn s S k cs .size) (S .memory k cs) f
   pub elsewhere : (cs : List Call) (t : ℕ) (f : List ℕ) (x y : ℕ) (other : List ℕ) → t ≢ typeOf k
@@ -189,9 +197,13 @@ pub record Counts (s : List ℕ) (S : Session) (k : Kind) : Type 0 where
   pub once : (cs : List Call) (j : ℕ) → timesIn (paperIn s S k cs) j + timesOut (paperIn s S k cs) j ≤ 1
   -- no other index is in any
   pub beyond : (cs : List Call) (j : ℕ) → paperIn s S k cs .granted ≤ j → timesIn (paperIn s S k cs) j + timesOut (paperIn s S k cs) j ≡ 0
-  -- the flags that QUERYBUF answers say in which it is
+  -- the map count of a buffer is that of accepted maps less accepted unmaps, at most 255; only buffers that are granted are mapped
+  pub tallied : (cs : List Call) (j : ℕ) → mapsOf (paperIn s S k cs .maps) j + changes Unmap j (historyIn s S k cs) ≡ changes Map j (historyIn s S k cs)
+  pub most : (cs : List Call) (j : ℕ) → mapsOf (paperIn s S k cs .maps) j ≤ mostMaps
+  pub spare : (cs : List Call) (j : ℕ) → paperIn s S k cs .granted ≤ j → mapsOf (paperIn s S k cs .maps) j ≡ 0
+  -- the flags that QUERYBUF answers say in which it is, and whether it is mapped
   pub flags : (cs : List Call) (w : ℕ) (a : List ℕ) → requestOf w .call ≡ Querybuf → wordAt a 4 ≡ typeOf k → S .request cs w a .number ≡ 0
-      → wordAt (S .request cs w a .argument) 12 ≡ 2 * timesIn (paperIn s S k cs) (wordAt a 0) + 4 * timesOut (paperIn s S k cs) (wordAt a 0)
+      → wordAt (S .request cs w a .argument) 12 ≡ mappedOn (paperIn s S k cs) (wordAt a 0) + 2 * timesIn (paperIn s S k cs) (wordAt a 0) + 4 * timesOut (paperIn s S k cs) (wordAt a 0)
   -- RUNNING in a run; else BLANK if none of the last run's arrivals was handed over, GAPS if some were and not all
   pub running : (cs : List Call) → (S .verdict cs (typeOf k) ≡ Running) ⇔ (paperIn s S k cs .running ≡ true)
   pub blank : (cs : List Call) → (S .verdict cs (typeOf k) ≡ Blank) ⇔ ((paperIn s S k cs .running ≡ false) × (paperIn s S k cs .run .handed ≡ 0))

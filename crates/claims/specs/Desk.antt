@@ -21,8 +21,8 @@ use Rattle.crop_calls.specs.Crops.{askedCrop}
 use Rattle.service_replies.specs.Services.{linesAt}
 use Rattle.device_state.specs.State.{noServices}
 use Rattle.claims.specs.Calls.{Call, Reply}
-use Rattle.claims.specs.Calls.Call.{request, arrival}
-use Rattle.claims.specs.Calls.Reply.{answered, taken}
+use Rattle.claims.specs.Calls.Call.{request, arrival, change}
+use Rattle.claims.specs.Calls.Reply.{answered, taken, numbered}
 use Rattle.claims.specs.Machine.{Session, more, replyIn}
 use Rattle.claims.specs.Table.{named}
 
@@ -72,7 +72,9 @@ chosen s q GSlicedVbiCap a b = q
 abbrev pub choice : List ℕ → Desk → Call → Reply → Desk
 choice s q (request w a) (answered n b) = cond (eqb n 0) (chosen s q (requestOf w .call) a b) q
 choice s q (request w a) (taken r) = q
+choice s q (request w a) (numbered n) = q
 choice s q (arrival t f x y other) r = q
+choice s q (change c t o l) r = q
 
 -- after calls that come after those of h
 abbrev pub deskFrom : List ℕ → Session → List Call → Desk → List Call → Desk

@@ -12,14 +12,16 @@ use Rattle.device_state.specs.State.{State}
 use Rattle.device_opening.specs.Opening.{Whole, openedOf}
 use Rattle.request_topics.specs.Request.{requestAnswer}
 use Rattle.device_film.specs.Film.{takenOf, takenMemory, deviceVerdict}
+use Rattle.stream_maps.specs.declared.Change.{Change}
+use Rattle.device_maps.specs.Mapping.{mappedOf}
 use Rattle.device_planes.specs.Planes.{devicePlace}
 use Rattle.claims.specs.Calls.{Kind, typeOf, Call, arrivalTime}
-use Rattle.claims.specs.Calls.Call.{request, arrival}
+use Rattle.claims.specs.Calls.Call.{request, arrival, change}
 use Rattle.claims.specs.Machine.{Given, Machine}
 use Rattle.claims.specs.Table.{kindOf}
 
--- what an opening gives back and leaves
-pub record Opens (D : Type 0) : Type 0 where
+-- what an opening, a map or an unmap gives back and leaves
+pub record Left (D : Type 0) : Type 0 where
   pub number : ℕ
   pub device : D
 
@@ -37,9 +39,10 @@ pub record Takes (D : Type 0) : Type 0 where
 -- A device.
 pub record Device : Type 1 where
   pub State : Type 0
-  pub opens : List ℕ → ℕ → ℕ → Opens State
+  pub opens : List ℕ → ℕ → ℕ → Left State
   pub request : State → ℕ → List ℕ → Asks State
   pub arrive : State → ℕ → List ℕ → List ℕ → ℕ → ℕ → Takes State
+  pub change : State → Change → ℕ → ℕ → ℕ → Left State
   pub verdict : State → ℕ → Verdict
   pub counts : Kind → State → Run
   pub plane : State → ℕ → ℕ → Place
@@ -65,6 +68,7 @@ module _ (D : Device) where
   goesOn k (request w a) = record { device = D .request (k .device) w a .device; memory = k .memory }
   goesOn k (arrival t f x y other) =
       record { device = takes k t f x y other .device; memory = keptOn (k .memory) t other (takes k t f x y other .memory) }
+  goesOn k (change c t o l) = record { device = D .change (k .device) c t o l .device; memory = k .memory }
 
   abbrev pub keptAfter : Kept (D .State) → List Call → Kept (D .State)
   keptAfter k [] = k
@@ -73,13 +77,14 @@ module _ (D : Device) where
   -- its sessions
   abbrev pub machineOf : Machine
   machineOf s m =
-      let opened : Opens (D .State) = D .opens s (length (m Kind.pictures)) (length (m Kind.captions)) in
+      let opened : Left (D .State) = D .opens s (length (m Kind.pictures)) (length (m Kind.captions)) in
       let after : List Call → Kept (D .State) = keptAfter (record { device = opened .device; memory = m }) in
       record {
         opening = opened .number;
         request = λ cs w a. D .request (after cs .device) w a .given;
         arrival = λ cs t f x y other. takes (after cs) t f x y other .arrival;
         leaves = λ cs t f x y other. D .arrive (after cs .device) t other f x y .memory;
+        change = λ cs c t o l. D .change (after cs .device) c t o l .number;
         memory = λ k cs. after cs .memory k;
         counts = λ k cs. D .counts k (after cs .device);
         verdict = λ cs t. D .verdict (after cs .device) t;
@@ -104,6 +109,10 @@ ourDevice = record {
     arrival = takenOf (d .state) t (length m) f (arrivalTime x y) .arrival;
     device = record { sheet = d .sheet; state = takenOf (d .state) t (length m) f (arrivalTime x y) .state };
     memory = takenMemory (d .state) t m f (arrivalTime x y);
+  };
+  change = λ d c t o l. record {
+    number = mappedOf c (d .state) t o l .number;
+    device = record { sheet = d .sheet; state = mappedOf c (d .state) t o l .state };
   };
   verdict = λ d t. deviceVerdict (d .state) t;
   counts = λ k d. streamOf k (d .state) .run;

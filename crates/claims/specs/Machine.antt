@@ -5,11 +5,12 @@ use mathlib.Core.Path.{_≡_}
 use mathlib.Core.List.{List, [], _∷_, _++_}
 use Rattle.stream_words.specs.Stream.{Run}
 use Rattle.plane_rules.specs.declared.Place.{Place}
+use Rattle.stream_maps.specs.declared.Change.{Change}
 use Rattle.stream_arrival.specs.declared.Arrival.{Arrival}
 use Rattle.stream_verdict.specs.declared.Verdict.{Verdict}
 use Rattle.claims.specs.Calls.{Call, Reply, Kind}
-use Rattle.claims.specs.Calls.Call.{request, arrival}
-use Rattle.claims.specs.Calls.Reply.{answered, taken}
+use Rattle.claims.specs.Calls.Call.{request, arrival, change}
+use Rattle.claims.specs.Calls.Reply.{answered, taken, numbered}
 
 -- What a request gives back: its number, and the argument as it is left.
 pub record Given : Type 0 where
@@ -26,6 +27,8 @@ pub record Session : Type 0 where
   pub arrival : List Call → ℕ → List ℕ → ℕ → ℕ → List ℕ → Arrival
   -- what it leaves of the memory that it is lent, whatever that is
   pub leaves : List Call → ℕ → List ℕ → ℕ → ℕ → List ℕ → List ℕ
+  -- the number that a map or an unmap gives back: which it is, type, offset, length
+  pub change : List Call → Change → ℕ → ℕ → ℕ → ℕ
   -- of each stream the memory and the counts of the last run; of each type the verdict
   pub memory : Kind → List Call → List ℕ
   pub counts : Kind → List Call → Run
@@ -45,6 +48,7 @@ more h c = h ++ (c ∷ [])
 abbrev pub replyIn : Session → List Call → Call → Reply
 replyIn S h (request w a) = answered (S .request h w a .number) (S .request h w a .argument)
 replyIn S h (arrival t f x y other) = taken (S .arrival h t f x y other)
+replyIn S h (change c t o l) = numbered (S .change h c t o l)
 
 -- after these calls and after those everything that can be seen is the same
 pub record Same (S : Session) (x y : List Call) : Type 0 where

@@ -11,7 +11,7 @@ use Rattle.wire_signed.specs.Signed.{signed}
 use Rattle.ioctl_table.specs.Refusal.{errnoOf}
 use Rattle.ioctl_table.specs.Table.{requestOf}
 use Rattle.ioctl_table.specs.declared.refusals.Refusal.{Refusal}
-use Rattle.ioctl_table.specs.declared.refusals.Refusal.the-variants.{ArgumentLength, MemoryLength, Closed, UnknownWord, WrongType, WrongMemory, NoSuchIndex, NoSuchControl, NotDequeued, NoBuffers, NotStreaming, ControlDisabled, ControlReadOnly, ControlIsButton, BuffersExist, Streaming, ControlGrabbed, OutOfRange, NothingOutgoing, RunFull, BadSheet, MemoryTooLong}
+use Rattle.ioctl_table.specs.declared.refusals.Refusal.the-variants.{ArgumentLength, MemoryLength, Closed, UnknownWord, WrongType, WrongMemory, NoSuchIndex, NoSuchControl, NotDequeued, NoBuffers, NotStreaming, ControlDisabled, ControlReadOnly, ControlIsButton, NoSuchBuffer, BuffersExist, StillMapped, Streaming, ControlGrabbed, OutOfRange, NothingOutgoing, RunFull, BadSheet, MemoryTooLong}
 use Rattle.ioctl_table.specs.declared.table.Call.{Call as Asked}
 use Rattle.ioctl_table.specs.declared.table.Call.the-variants.{Unknown, Querycap, EnumFmt, GFmt, SFmt, TryFmt, Reqbufs, Querybuf, Qbuf, Dqbuf, Streamon, Streamoff, GCtrl, SCtrl, Queryctrl, Cropcap, GCrop, SCrop, GSlicedVbiCap}
 use Rattle.sheet_rules.specs.Rules.{goodSheet}
@@ -20,6 +20,9 @@ use Rattle.sheet_records.specs.Records.{controlFields}
 use Rattle.sheet_records.specs.declared.Control.{Control}
 use Rattle.control_place_rules.specs.Find.{present, placeOf, queriedPlace}
 use Rattle.wire_read.specs.Lists.{any}
+use Rattle.stream_slots.specs.Slot.{isSlot, bufferAt}
+use Rattle.stream_maps.specs.declared.Change.{Change}
+use Rattle.stream_maps.specs.Maps.{mapsOf, anyMapped, blocked, whyNot}
 use Rattle.stream_run.specs.Stream.{reduced}
 use Rattle.stream_arrival.specs.Arrivals.{runLimit}
 use Rattle.picture_rules.specs.Picture.{wholePicture}
@@ -91,7 +94,9 @@ tests EnumFmt s P a = wrongType a 4 ∷ check (leb (formatCount s) (wordAt a 0))
 tests GFmt s P a = wrongStream a 0 ∷ []
 tests SFmt s P a = wrongStream a 0 ∷ check (not (eqb (paperAt P a 0 .granted) 0)) BuffersExist ∷ []
 tests TryFmt s P a = wrongStream a 0 ∷ []
-tests Reqbufs s P a = wrongStream a 4 ∷ wrongMemory a 8 ∷ check (paperAt P a 4 .running && not (eqb (wordAt a 0) 0)) Streaming ∷ []
+tests Reqbufs s P a =
+    wrongStream a 4 ∷ wrongMemory a 8 ∷ check (anyMapped (paperAt P a 4 .maps)) StillMapped
+    ∷ check (paperAt P a 4 .running && not (eqb (wordAt a 0) 0)) Streaming ∷ []
 tests Querybuf s P a = wrongStream a 4 ∷ check (leb (paperAt P a 4 .granted) (wordAt a 0)) NoSuchIndex ∷ []
 tests Qbuf s P a =
     wrongStream a 4 ∷ wrongMemory a 48 ∷ check (leb (paperAt P a 4 .granted) (wordAt a 0)) NoSuchIndex
@@ -125,6 +130,12 @@ abbrev pub arrivalTests : ℕ → (Kind → ℕ) → (Kind → Paper) → ℕ �
 arrivalTests n long P t lent =
     check (not (eqb n 0)) Closed ∷ check (noStream t) WrongType ∷ check (not (eqb lent (long (kindOf t)))) MemoryLength
     ∷ check (P (kindOf t) .running && leb runLimit (P (kindOf t) .run .accepted)) RunFull ∷ []
+
+-- a map or an unmap: the opening was refused, no such stream, no granted buffer has this offset and length, its count is at its end
+abbrev pub changeTests : ℕ → (Kind → Paper) → Change → ℕ → ℕ → ℕ → List Check
+changeTests n P c t o l =
+    check (not (eqb n 0)) Closed ∷ check (noStream t) WrongType ∷ check (not (isSlot (P (kindOf t) .granted) (P (kindOf t) .size) o l)) NoSuchBuffer
+    ∷ check (blocked c (mapsOf (P (kindOf t) .maps) (bufferAt (P (kindOf t) .size) o))) (whyNot c) ∷ []
 
 -- the first test that holds refuses an arrival; where none does, it is answered this
 abbrev pub refusedBy : List Check → Arrival → Arrival

@@ -10,11 +10,13 @@ use Rattle.ioctl_table.specs.declared.table.Call.the-variants.{Unknown, Queryca
 use Rattle.sheet_geometry.specs.Geometry.{lineAlignment}
 use Rattle.format_rules.specs.Size.{imageSize}
 use Rattle.negotiation_rules.specs.Negotiation.{openingFormat}
+use Rattle.stream_slots.specs.Slot.{bufferAt}
+use Rattle.stream_maps.specs.declared.Change.{Change}
 use Rattle.stream_history.specs.Paper.{Paper, Event, blank, noted, handedOver, refusedArrival, tells}
-use Rattle.stream_history.specs.Paper.Event.{put, whole, damaged, handed, begun, ended, sized, idle}
+use Rattle.stream_history.specs.Paper.Event.{put, whole, damaged, handed, begun, ended, sized, changed, idle}
 use Rattle.claims.specs.Calls.{Kind, typeOf, Call, Reply, arrivalTime}
-use Rattle.claims.specs.Calls.Call.{request, arrival}
-use Rattle.claims.specs.Calls.Reply.{answered, taken}
+use Rattle.claims.specs.Calls.Call.{request, arrival, change}
+use Rattle.claims.specs.Calls.Reply.{answered, taken, numbered}
 use Rattle.claims.specs.Machine.{Session, more, replyIn}
 use Rattle.claims.specs.Table.{wholeOn}
 use Rattle.claims.specs.Desk.{deskIn}
@@ -81,13 +83,22 @@ toldBy k p call a b = cond (eqb (wordAt a (typeAt call)) (typeOf k)) (requestTol
 abbrev pub arrivalTold : Kind → Paper → List ℕ → List ℕ → ℕ → ℕ → Event
 arrivalTold k p services f x y = cond (wholeOn k (p .size) services f (arrivalTime x y)) (whole f (arrivalTime x y)) damaged
 
--- what a call tells a stream, by what is given back and the services in force before it: a request is accepted if it is answered 0, an
--- arrival if it is of the stream's type, made in a run and not refused
+-- an accepted map or unmap that names the stream is one of the buffer that has its offset
+abbrev pub changeTold : Kind → Paper → Change → ℕ → ℕ → Event
+changeTold k p c t o = cond (eqb t (typeOf k)) (changed c (bufferAt (p .size) o)) idle
+
+-- what a call tells a stream, by what is given back and the services in force before it: a request, a map and an unmap are accepted if they are
+-- answered 0, an arrival if it is of the stream's type, made in a run and not refused
 abbrev pub told : Kind → Paper → Call → Reply × List ℕ → Event
 told k p (request w a) (answered n b, l) = cond (eqb n 0) (toldBy k p (requestOf w .call) a b) idle
 told k p (request w a) (taken x, l) = idle
+told k p (request w a) (numbered n, l) = idle
 told k p (arrival t f x y other) (answered n b, l) = idle
 told k p (arrival t f x y other) (taken r, l) = cond (eqb t (typeOf k)) (cond (refusedArrival r) idle (cond (p .running) (arrivalTold k p l f x y) idle)) idle
+told k p (arrival t f x y other) (numbered n, l) = idle
+told k p (change c t o z) (answered n b, l) = idle
+told k p (change c t o z) (taken r, l) = idle
+told k p (change c t o z) (numbered n, l) = cond (eqb n 0) (changeTold k p c t o) idle
 
 -- what a call gives back, with the services in force before it
 abbrev pub seenIn : List ℕ → Session → List Call → Call → Reply × List ℕ
@@ -102,9 +113,13 @@ abbrev pub openingSize : List ℕ → Kind → ℕ
 openingSize s Kind.pictures = imageSize (openingFormat s) (lineAlignment s)
 openingSize s Kind.captions = 0
 
--- the two queues of a stream and its counts on paper, after calls from an opening with sheet s
+-- all that calls from an opening with sheet s tell a stream
+abbrev pub historyIn : List ℕ → Session → Kind → List Call → List Event
+historyIn s S k cs = eventsIn s S k [] (blank (openingSize s k)) cs
+
+-- the two queues of a stream, its counts and its maps on paper, after them
 abbrev pub paperIn : List ℕ → Session → Kind → List Call → Paper
-paperIn s S k cs = noted (blank (openingSize s k)) (eventsIn s S k [] (blank (openingSize s k)) cs)
+paperIn s S k cs = noted (blank (openingSize s k)) (historyIn s S k cs)
 
 -- the papers of both
 abbrev pub papersIn : List ℕ → Session → List Call → Kind → Paper
@@ -112,4 +127,4 @@ papersIn s S cs k = paperIn s S k cs
 
 -- the places in the run of the arrivals handed over in the last one: full counts, not numbers
 abbrev pub handedIn : List ℕ → Session → Kind → List Call → List ℕ
-handedIn s S k cs = handedOver (blank (openingSize s k)) [] (eventsIn s S k [] (blank (openingSize s k)) cs)
+handedIn s S k cs = handedOver (blank (openingSize s k)) [] (historyIn s S k cs)

@@ -19,8 +19,8 @@ use Rattle.claims.specs.Demands.{Demand1, Answers, Counts}
 use Rattle.claims_together.proofs.Meets.{device-meets}
 use Rattle.bench_sheet.specs.Bench.{benchSheet}
 use Rattle.claims_shut_out.specs.Calls.{dark, white, line21}
-use Rattle.claims_shut_out.specs.Faults.{Out}
-use Rattle.claims_shut_out.specs.Wrong.{ours, Wrong}
+use Rattle.claims_shut_out.specs.Wrong.{ours}
+use Rattle.claims_shut_out.proofs.Instances.{wrong}
 use Rattle.claims_long_runs.specs.Films.{begun, comes, torn, takes, gives, stops, repeated, film}
 use Rattle.claims_long_runs.specs.Late.{Misnumbered, FullTooSoon, FullTooLate, LossOverlooked, Miscounted, numbered, fullAt, judged, saturating, wrapsEarly, oldLimit, oneLess, endless, judgedReduced, shortCounts, LateDevices}
 use Rattle.claims_long_runs.proofs.Rounds.{inRun, At, after-comes, after-stops, at-first}
@@ -170,9 +170,6 @@ counts-short =
       ap arrivalNumber (long-films ours device-meets Kind.pictures .1 .last),
       λ z. omega (arith, z, more-one, accepted Kind.pictures 4294967295 (omega arith)),
     )
-
-wrong : {Fault : Machine → Type 0} → Out Fault → (M : Machine) → Fault M → Wrong Fault M
-wrong out M fault = (fault, out M fault)
 
 pub late-devices : LateDevices
 late-devices = record {

@@ -13,6 +13,7 @@ use Rattle.ioctl_table.specs.declared.refusals.Refusal.the-variants.{RunFull}
 use Rattle.buffer_replies.specs.Replies.{bufferReply}
 use Rattle.buffer_replies.proofs.Lengths.{buffer-number}
 use Rattle.stream_run.specs.Stream.{reduced}
+use Rattle.stream_maps.specs.Maps.{noMaps}
 use Rattle.stream_status.specs.Buffer.{describedOf, returnedOf}
 use Rattle.stream_arrival.specs.declared.Arrival.the-variants.{Refused, Stored}
 use Rattle.stream_arrival.specs.Arrivals.{runLimit}
@@ -94,12 +95,12 @@ module _ (S : Session) (d : Demand1 benchSheet dark S) (n : Answers benchSheet d
   unfolding requestOf callOf knownWords wordAt le32 bytesOf returnedOf describedOf
   returns Kind.pictures cs a h t e =
       ap (λ (b : List ℕ). wordAt b 44) (n .arguments cs 0xC0445611 (bufferOf Kind.pictures 0) (taken S d a h t Kind.pictures cs e))
-      ∙ ap (λ (p : Paper). wordAt (bufferReply 1 (returnedOf (firstOn (p .outgoing)) (p .size))) 44) e
-      ∙ buffer-number 1 (returnedOf (firstOn (filledRun Kind.pictures a h t .outgoing)) 614400) (omega arith)
+      ∙ ap (λ (p : Paper). wordAt (bufferReply 1 (returnedOf (p .maps) (firstOn (p .outgoing)) (p .size))) 44) e
+      ∙ buffer-number 1 (returnedOf noMaps (firstOn (filledRun Kind.pictures a h t .outgoing)) 614400) (omega arith)
   returns Kind.captions cs a h t e =
       ap (λ (b : List ℕ). wordAt b 44) (n .arguments cs 0xC0445611 (bufferOf Kind.captions 0) (taken S d a h t Kind.captions cs e))
-      ∙ ap (λ (p : Paper). wordAt (bufferReply 6 (returnedOf (firstOn (p .outgoing)) (p .size))) 44) e
-      ∙ buffer-number 6 (returnedOf (firstOn (filledRun Kind.captions a h t .outgoing)) 128) (omega arith)
+      ∙ ap (λ (p : Paper). wordAt (bufferReply 6 (returnedOf (p .maps) (firstOn (p .outgoing)) (p .size))) 44) e
+      ∙ buffer-number 6 (returnedOf noMaps (firstOn (filledRun Kind.captions a h t .outgoing)) 128) (omega arith)
 
   module _ (k : Kind) where
     stored : (m : ℕ) → m < runLimit → nextAnswer S k (film k m) ≡ Stored 0 (reduced m)

@@ -11,6 +11,7 @@ use Rattle.wire_signed.specs.Signed.{signed}
 use Rattle.ioctl_table.specs.Table.{requestOf, callOf, knownWords}
 use Rattle.picture_rules.specs.Picture.{wholePicture}
 use Rattle.caption_rules.specs.Caption.{wholeCaption}
+use Rattle.stream_maps.specs.Maps.{noMaps}
 use Rattle.stream_run.specs.Stream.{reduced}
 use Rattle.stream_arrival.specs.declared.Arrival.the-variants.{Stored}
 use Rattle.stream_arrival.specs.Arrivals.{runLimit}
@@ -44,6 +45,7 @@ inRun k a h t = record {
   run = record { ran = 1; accepted = a; handed = h; damaged = t; dropped = 0; discarded = 0 };
   incoming = 0 ∷ [];
   outgoing = [];
+  maps = noMaps;
 }
 
 -- the same when a whole frame has come

@@ -3,6 +3,7 @@ use mathlib.Core.Path.{_≡_, refl, ap, _∙_}
 use mathlib.Core.Bool.{true}
 use Prim.Native.Nat.{ℕ}
 use mathlib.Core.List.{List, [], _∷_}
+use Rattle.stream_maps.specs.Maps.{anyMapped, noMaps}
 use Rattle.wire_read.specs.Words.{wordAt, le32, bytesOf}
 use Rattle.wire_signed.specs.Signed.{signed}
 use Rattle.ioctl_table.specs.Table.{requestOf, callOf, knownWords}
@@ -82,7 +83,7 @@ module _ (S : Session) (d : Demand1 benchSheet dark S) (k : Answers benchSheet d
   at-1 = sized-so ∙ ap (λ (b : List ℕ). step (blank 0) (sized (wordAt b 104))) answers ∙ ap (λ (n : ℕ). step (blank 0) (sized n)) answered-size
 
   asks-them : S .request (reqbufs ∷ sets ∷ []) 0xC0145608 captionBuffers .number ≡ 0
-  unfolding C1 requestOf callOf knownWords wordAt le32 bytesOf
+  unfolding C1 requestOf callOf knownWords wordAt le32 bytesOf any anyMapped noMaps
   asks-them = asked-both S d (reqbufs ∷ sets ∷ []) (four S d) C1 0xC0145608 captionBuffers pictures-1 at-1 refl
 
   gets-them : wordAt (S .request (reqbufs ∷ sets ∷ []) 0xC0145608 captionBuffers .argument) 0 ≡ 4

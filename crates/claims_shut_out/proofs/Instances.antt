@@ -24,7 +24,7 @@ use Rattle.stream_verdict.specs.declared.Verdict.{Verdict}
 use Rattle.stream_verdict.specs.declared.Verdict.the-variants.{Running, Blank, Gaps, Complete}
 use Rattle.stream_history.specs.Paper.{Paper, blank, noted, tells}
 use Rattle.claims.specs.Calls.{Kind, Call, Reply}
-use Rattle.claims.specs.Calls.Call.{request, arrival}
+use Rattle.claims.specs.Calls.Call.{request, arrival, change}
 use Rattle.claims.specs.Machine.{Session, Machine, Given, more, replyIn}
 use Rattle.claims.specs.Words.{told, openingSize, paperIn}
 use Rattle.claims.specs.Desk.{Desk, choice, openingDesk, deskFrom}
@@ -96,6 +96,7 @@ module _ (s : List ℕ) (S : Session) (memory : Kind → List Call → List ℕ)
   replies : (h : List Call) (c : Call) → replyIn (telling S memory verdict counts) h c ≡ replyIn S h c
   replies h (request w a) = refl
   replies h (arrival t f x y other) = refl
+  replies h (change c t o l) = refl
 
   same-desk : (cs h : List Call) (q : Desk) → deskFrom s (telling S memory verdict counts) h q cs ≡ deskFrom s S h q cs
   same-desk [] h q = refl
@@ -233,6 +234,8 @@ module _ (s : List ℕ) (S : Session) (m f : List ℕ) (x y : ℕ) (other : List
       at-h = ap (λ (l : List Call). S .arrival l 1 f x y other) (sym (append-nil h)) ∙ e
   first-only (request w a ∷ cs) h ds e =
       first-only cs (more h (request w a)) ds (ap (λ (l : List Call). S .arrival l 1 f x y other) (append-assoc h (request w a ∷ []) cs) ∙ e)
+  first-only (change c t i l ∷ cs) h ds e =
+      first-only cs (more h (change c t i l)) ds (ap (λ (z : List Call). S .arrival z 1 f x y other) (append-assoc h (change c t i l ∷ []) cs) ∙ e)
   first-only (arrival t g u v lent ∷ cs) h ds e =
       ap (λ (l : List ℕ). cond (eqb t 1) (ifStored (S .arrival h t g u v lent) (full h g) l) l)
       (first-only cs (more h (arrival t g u v lent)) ds (ap (λ (l : List Call). S .arrival l 1 f x y other) (append-assoc h (arrival t g u v lent ∷ []) cs) ∙ e))
@@ -332,7 +335,7 @@ takes-all =
 -- ---- all of them
 
 -- who has a fault that is shut out does not meet the demands
-wrong : {Fault : Machine → Type 0} → Out Fault → (M : Machine) → Fault M → Wrong Fault M
+pub wrong : {Fault : Machine → Type 0} → Out Fault → (M : Machine) → Fault M → Wrong Fault M
 wrong out M fault = (fault, out M fault)
 
 pub wrong-devices : WrongDevices

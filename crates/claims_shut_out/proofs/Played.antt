@@ -4,6 +4,8 @@ use mathlib.Core.Bool.{cond}
 use Prim.Native.Nat.{ℕ, zero, suc, _<_}
 use mathlib.Core.List.{List, [], _∷_}
 use lib.ListN.{length, getD, replicate, length-replicate, getD-replicate}
+use Rattle.wire_read.specs.Lists.{any}
+use Rattle.stream_maps.specs.Maps.{anyMapped, noMaps}
 use Rattle.wire_read.specs.Words.{wordAt, le32, bytesOf}
 use Rattle.ioctl_table.specs.Table.{requestOf, callOf, knownWords}
 use Rattle.sheet_contents.specs.Contents.{formatsAt, formatAt, geometryAt}
@@ -138,7 +140,7 @@ module _ (S : Session) (d : Demand1 benchSheet dark S) where
 
   -- ---- ten asked, four granted
   pub asks-ten : S .request [] 0xC0145608 tenBuffers .number ≡ 0
-  unfolding requestOf callOf knownWords wordAt le32 bytesOf
+  unfolding requestOf callOf knownWords wordAt le32 bytesOf any anyMapped noMaps
   asks-ten = asked [] (blank 614400) 0xC0145608 tenBuffers at-first refl
 
   pub gets-four : wordAt (S .request [] 0xC0145608 tenBuffers .argument) 0 ≡ 4

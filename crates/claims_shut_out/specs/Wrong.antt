@@ -28,7 +28,7 @@ use Rattle.stream_verdict.specs.declared.Verdict.{Verdict}
 use Rattle.stream_verdict.specs.declared.Verdict.the-variants.{Running, Blank, Gaps, Complete}
 use Rattle.stream_history.specs.Paper.{Paper}
 use Rattle.claims.specs.Calls.{Kind, typeOf, Call}
-use Rattle.claims.specs.Calls.Call.{request, arrival}
+use Rattle.claims.specs.Calls.Call.{request, arrival, change}
 use Rattle.claims.specs.Machine.{Session, Machine, Given, more}
 use Rattle.claims.specs.Words.{paperIn}
 use Rattle.claims_together.specs.Meets.{Meets}
@@ -48,6 +48,7 @@ module _ (S : Session) where
     request = S .request;
     arrival = S .arrival;
     leaves = S .leaves;
+    change = S .change;
     memory = S .memory;
     verdict = S .verdict;
     counts = S .counts;
@@ -60,6 +61,7 @@ module _ (S : Session) where
     request = g;
     arrival = S .arrival;
     leaves = S .leaves;
+    change = S .change;
     memory = S .memory;
     verdict = S .verdict;
     counts = S .counts;
@@ -72,6 +74,7 @@ module _ (S : Session) where
     request = S .request;
     arrival = g;
     leaves = S .leaves;
+    change = S .change;
     memory = S .memory;
     verdict = S .verdict;
     counts = S .counts;
@@ -85,6 +88,7 @@ module _ (S : Session) where
     request = S .request;
     arrival = S .arrival;
     leaves = S .leaves;
+    change = S .change;
     memory = memory;
     verdict = verdict;
     counts = counts;
@@ -186,6 +190,7 @@ fromAbove = widening (λ r n. n + r .step / 2)
 abbrev pub raised : Call → Call
 raised (request w a) = request w (cond (eqb (place (requestOf w .call)) (place SCrop) && ltZ (signedAt a 4) (pos 0)) (leftZero a) a)
 raised (arrival t f x y other) = arrival t f x y other
+raised (change c t o l) = change c t o l
 
 abbrev pub leftRaised : Machine
 leftRaised s m = withRequest (ours s m) (λ cs w a. ours s m .request (map raised cs) w a)
@@ -195,6 +200,7 @@ abbrev pub cropAfter : (Rect → Rect) → Rect → List Call → Rect
 cropAfter g r [] = r
 cropAfter g r (request w a ∷ cs) = cropAfter g (cond (eqb (place (requestOf w .call)) (place SCrop)) (g (askedCrop a)) r) cs
 cropAfter g r (arrival t f x y other ∷ cs) = cropAfter g r cs
+cropAfter g r (change c t o l ∷ cs) = cropAfter g r cs
 
 -- G_CROP tells the crop by other rules: what opening makes of the default, and what S_CROP makes of a rectangle, both by the bounds
 abbrev pub cropping : (Rect → Rect → Rect) → (Rect → Rect → Rect) → Machine
@@ -206,6 +212,7 @@ cropping first g s m =
 abbrev pub setsFormat : Call → Bool
 setsFormat (request w a) = eqb (place (requestOf w .call)) (place SFmt)
 setsFormat (arrival t f x y other) = false
+setsFormat (change c t o l) = false
 
 abbrev pub forgotten : List ℕ → List Call → List ℕ → Given → Given
 forgotten s cs a r = cond (any setsFormat cs) (record { number = r .number; argument = cropReply (openingCrop s) }) r
@@ -264,6 +271,7 @@ storedBy (Stored j n) k = j
 abbrev pub filledBy : ℕ → Session → List Call → Call → ℕ → ℕ
 filledBy t S h (request w a) k = k
 filledBy t S h (arrival u f x y other) k = cond (eqb u t) (storedBy (S .arrival h u f x y other) k) k
+filledBy t S h (change c u o l) k = k
 
 -- the buffer of it that was filled last by calls made after h, k if none was
 abbrev pub youngest : ℕ → Session → List Call → List Call → ℕ → ℕ
@@ -347,6 +355,7 @@ failedIn S k h (request w a ∷ cs) =
     cond (eqb (place (requestOf w .call)) (place Dqbuf) && (eqb (wordAt a 4) (typeOf k) && not (eqb (S .request h w a .number) 0))) 1 0
     + failedIn S k (more h (request w a)) cs
 failedIn S k h (arrival t f x y other ∷ cs) = failedIn S k (more h (arrival t f x y other)) cs
+failedIn S k h (change c t o l ∷ cs) = failedIn S k (more h (change c t o l)) cs
 
 -- they count as handed over
 abbrev pub withFailed : Run → ℕ → Run
@@ -399,6 +408,7 @@ ifStored (Stored k j) m n = m
 abbrev pub filledOnce : List ℕ → Session → List ℕ → List Call → List Call → List ℕ
 filledOnce s S m h [] = m
 filledOnce s S m h (request w a ∷ cs) = filledOnce s S m (more h (request w a)) cs
+filledOnce s S m h (change c t o l ∷ cs) = filledOnce s S m (more h (change c t o l)) cs
 filledOnce s S m h (arrival t f x y other ∷ cs) =
     let later : List ℕ = filledOnce s S m (more h (arrival t f x y other)) cs in
     cond (eqb t 1) (ifStored (S .arrival h t f x y other) (flooded (paperIn s S Kind.pictures h .granted) (paperIn s S Kind.pictures h .size) m f) later) later

@@ -10,6 +10,7 @@ use lib.ListN.{length}
 use Rattle.ioctl_table.specs.Table.{requestOf}
 use Rattle.stream_words.specs.Stream.{Run}
 use Rattle.plane_rules.specs.declared.Place.{Place}
+use Rattle.stream_maps.specs.declared.Change.{Change}
 use Rattle.stream_arrival.specs.declared.Arrival.{Arrival}
 use Rattle.stream_arrival.specs.Arrivals.{writtenBy}
 use Rattle.stream_verdict.specs.declared.Verdict.{Verdict}
@@ -17,11 +18,11 @@ use Rattle.stream_verdict.specs.declared.Verdict.the-variants.{Running, Blank, 
 use Rattle.stream_history.specs.Paper.{Paper, blank, step, handedOver, tells}
 use Rattle.stream_history.proofs.Meanings.{Means}
 use Rattle.claims.specs.Calls.{Kind, typeOf, Call, Reply, arrivalTime}
-use Rattle.claims.specs.Calls.Call.{request, arrival}
-use Rattle.claims.specs.Calls.Reply.{answered, taken}
+use Rattle.claims.specs.Calls.Call.{request, arrival, change}
+use Rattle.claims.specs.Calls.Reply.{answered, taken, numbered}
 use Rattle.claims.specs.Machine.{Given, Session, more, replyIn}
 use Rattle.claims.specs.Words.{told, seenIn, openingSize, paperIn, papersIn, handedIn}
-use Rattle.claims.specs.Table.{firstNumber, requestTests, arrivalTests, refusedBy, kindOf, arrivedOn}
+use Rattle.claims.specs.Table.{firstNumber, requestTests, arrivalTests, changeTests, refusedBy, kindOf, arrivedOn}
 use Rattle.claims.specs.Desk.{Desk, openingDesk, choice, deskFrom, deskIn}
 use Rattle.claims.specs.Answers.{answerOn, planeOn}
 use Rattle.claims.specs.Demands.{Demand1, Demand3, Counts, Answers}
@@ -107,15 +108,23 @@ module _ (s : List ℕ) (m : Kind → List ℕ) (S T : Session) (t : Told s m S)
         none : (i : ℕ) → i ≢ typeOf Kind.pictures → i ≢ typeOf Kind.captions → S .leaves h i f x y other ≡ T .leaves h i f x y other
         none i p c = t .all .untouched h i f x y other p c ∙ sym (u .all .untouched h i f x y other p c)
 
+    same-change : (c : Change) (i o l : ℕ) → S .change h c i o l ≡ T .change h c i o l
+    same-change c i o l =
+        t .one .changes h c i o l
+        ∙ ap₂ (λ (n : ℕ) (P : Kind → Paper). firstNumber (changeTests n P c i o l)) same-opening (e .papers)
+        ∙ sym (u .one .changes h c i o l)
+
     same-reply : (c : Call) → replyIn S h c ≡ replyIn T h c
     same-reply (request w a) = ap₂ answered (same-number w a) (same-argument w a)
     same-reply (arrival i f x y other) = ap taken (same-arrival i f x y other)
+    same-reply (change c i o l) = ap numbered (same-change c i o l)
 
     same-seen : (c : Call) → seenIn s S h c ≡ seenIn s T h c
     same-seen c = ap₂ (λ (r : Reply) (q : Desk). (r, q .services)) (same-reply c) (e .desk)
 
     same-memory : (c : Call) (k : Kind) → S .memory k (more h c) ≡ T .memory k (more h c)
     same-memory (request w a) k = t .three k .asks h w a ∙ e .memory k ∙ sym (u .three k .asks h w a)
+    same-memory (change c i o l) k = t .three k .maps h c i o l ∙ e .memory k ∙ sym (u .three k .maps h c i o l)
     same-memory (arrival i f x y other) k = go (eqb i (typeOf k)) refl
       where
         here : S .memory k (more h (arrival (typeOf k) f x y other)) ≡ T .memory k (more h (arrival (typeOf k) f x y other))
@@ -173,17 +182,20 @@ module _ (s : List ℕ) (m : Kind → List ℕ) (S T : Session) (t : Told s m S)
   same-session : S ≡ T
   same-session =
       ap₂ (λ (o : ℕ) (r : List Call → ℕ → List ℕ → Given).
-      record { opening = o; request = r; arrival = S .arrival; leaves = S .leaves; memory = S .memory; counts = S .counts; verdict = S .verdict; plane = S .plane })
+      record { opening = o; request = r; arrival = S .arrival; leaves = S .leaves; change = S .change; memory = S .memory; counts = S .counts; verdict = S .verdict; plane = S .plane })
       same-opening (fun-ext λ cs. fun-ext λ w. fun-ext λ a. same-request cs w a)
       ∙ ap₂ (λ (r : List Call → ℕ → List ℕ → ℕ → ℕ → List ℕ → Arrival) (l : List Call → ℕ → List ℕ → ℕ → ℕ → List ℕ → List ℕ).
-      record { opening = T .opening; request = T .request; arrival = r; leaves = l; memory = S .memory; counts = S .counts; verdict = S .verdict; plane = S .plane })
+      record { opening = T .opening; request = T .request; arrival = r; leaves = l; change = S .change; memory = S .memory; counts = S .counts; verdict = S .verdict; plane = S .plane })
       (fun-ext λ cs. fun-ext λ i. fun-ext λ f. fun-ext λ x. fun-ext λ y. fun-ext λ other. same-arrival cs (alike cs) i f x y other)
       (fun-ext λ cs. fun-ext λ i. fun-ext λ f. fun-ext λ x. fun-ext λ y. fun-ext λ other. same-leaves cs (alike cs) i f x y other)
+      ∙ ap (λ (c : List Call → Change → ℕ → ℕ → ℕ → ℕ).
+      record { opening = T .opening; request = T .request; arrival = T .arrival; leaves = T .leaves; change = c; memory = S .memory; counts = S .counts; verdict = S .verdict; plane = S .plane })
+      (fun-ext λ cs. fun-ext λ c. fun-ext λ i. fun-ext λ o. fun-ext λ l. same-change cs (alike cs) c i o l)
       ∙ ap₂ (λ (l : Kind → List Call → List ℕ) (r : Kind → List Call → Run).
-      record { opening = T .opening; request = T .request; arrival = T .arrival; leaves = T .leaves; memory = l; counts = r; verdict = S .verdict; plane = S .plane })
+      record { opening = T .opening; request = T .request; arrival = T .arrival; leaves = T .leaves; change = T .change; memory = l; counts = r; verdict = S .verdict; plane = S .plane })
       (fun-ext λ k. fun-ext λ cs. alike cs .memory k) (fun-ext λ k. fun-ext λ cs. same-counts k cs)
       ∙ ap₂ (λ (v : List Call → ℕ → Verdict) (p : List Call → ℕ → ℕ → Place).
-      record { opening = T .opening; request = T .request; arrival = T .arrival; leaves = T .leaves; memory = T .memory; counts = T .counts; verdict = v; plane = p })
+      record { opening = T .opening; request = T .request; arrival = T .arrival; leaves = T .leaves; change = T .change; memory = T .memory; counts = T .counts; verdict = v; plane = p })
       (fun-ext λ cs. fun-ext λ i. same-verdict cs i) (fun-ext λ cs. fun-ext λ n. fun-ext λ k. same-plane cs n k)
 
 pub no-room : NoRoom

@@ -22,8 +22,8 @@ use Rattle.crop_replies.specs.Replies.{cropReply, cropCapabilityReply}
 use Rattle.crop_replies.proofs.Back.{Held, crop-back, bounds-back, default-back}
 use Rattle.crop_calls.specs.Crops.{askedCrop}
 use Rattle.claims.specs.Calls.{Kind, typeOf, Call, Reply}
-use Rattle.claims.specs.Calls.Call.{request, arrival}
-use Rattle.claims.specs.Calls.Reply.{answered, taken}
+use Rattle.claims.specs.Calls.Call.{request, arrival, change}
+use Rattle.claims.specs.Calls.Reply.{answered, taken, numbered}
 use Rattle.claims.specs.Machine.{Session, more, replyIn}
 use Rattle.claims.specs.Words.{papersIn}
 use Rattle.claims.specs.Table.{named}
@@ -78,6 +78,7 @@ crop-stays s S cs c none = ap (λ (q : Desk). q .crop) (desk-more s S cs c) ∙ 
     by-call-made : (c : Call) → SetsNoCrop S cs c → choice s (deskIn s S cs) c (replyIn S cs c) .crop ≡ deskIn s S cs .crop
     by-call-made (request w a) none = answered-with w a none (eqb (S .request cs w a .number) 0) refl
     by-call-made (arrival t f x y other) none = refl
+    by-call-made (change c t o l) none = refl
 
 -- ---- it was always taken in the bounds
 
@@ -96,7 +97,9 @@ module _ (s : List ℕ) (q : Desk) (before : Taken s (q .crop)) where
   taken-choice : (c : Call) (r : Reply) → Taken s (choice s q c r .crop)
   taken-choice (request w a) (answered n b) = taken-either (eqb n 0) _ _ (taken-call (requestOf w .call) a b) before
   taken-choice (request w a) (taken r) = before
+  taken-choice (request w a) (numbered n) = before
   taken-choice (arrival t f x y other) r = before
+  taken-choice (change c t o l) r = before
 
 taken-always : (s : List ℕ) (S : Session) (cs : List Call) → Taken s (deskIn s S cs .crop)
 unfolding openingCrop

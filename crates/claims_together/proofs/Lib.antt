@@ -4,4 +4,5 @@ pub mod Switched
 pub mod Waiting
 pub mod Sizes
 pub mod Crops
+pub mod Mapped
 pub mod Meets

@@ -11,10 +11,12 @@ use Rattle.wire_read.specs.Words.{wordAt}
 use Rattle.ioctl_table.specs.Table.{requestOf}
 use Rattle.ioctl_table.specs.declared.table.Call.{Call as Asked}
 use Rattle.ioctl_table.specs.declared.table.Call.the-variants.{Unknown, Querycap, EnumFmt, GFmt, SFmt, TryFmt, Reqbufs, Querybuf, Qbuf, Dqbuf, Streamon, Streamoff, GCtrl, SCtrl, Queryctrl, Cropcap, GCrop, SCrop, GSlicedVbiCap}
+use Rattle.stream_slots.specs.Slot.{bufferAt}
+use Rattle.stream_maps.specs.declared.Change.{Change}
 use Rattle.stream_history.specs.Paper.{Paper, step, refusedArrival}
-use Rattle.stream_history.specs.Paper.Event.{whole, damaged, begun, idle}
+use Rattle.stream_history.specs.Paper.Event.{whole, damaged, begun, changed, idle}
 use Rattle.claims.specs.Calls.{Kind, typeOf, Call, arrivalTime}
-use Rattle.claims.specs.Calls.Call.{request, arrival}
+use Rattle.claims.specs.Calls.Call.{request, arrival, change}
 use Rattle.claims.specs.Machine.{Session, more}
 use Rattle.claims.specs.Words.{typeAt, requestTold, paperIn}
 use Rattle.claims.specs.Table.{wholeOn}
@@ -93,6 +95,7 @@ turn k GSlicedVbiCap p a b = quiet GSlicedVbiCap p (step p (requestTold k p GSli
 abbrev pub callIn : Call → Asked
 callIn (request w a) = requestOf w .call
 callIn (arrival t f x y other) = Unknown
+callIn (change c t o l) = Unknown
 
 -- a stop
 abbrev pub Stops : Asked → Type 0
@@ -114,6 +117,7 @@ module _ (s : List ℕ) (S : Session) (k : Kind) (h : List Call) where
   abbrev IsOne : (Asked → Type 0) → Call → Type 0
   IsOne Sort (request w a) = Accepted S k Sort h w a
   IsOne Sort (arrival t f x y other) = ⊥
+  IsOne Sort (change c t o l) = ⊥
 
   is-not : (Sort : Asked → Type 0) (c : Call) → (IsOne Sort c → ⊥) → Not S k Sort h c
   is-not Sort c none w a q o = none (subst (IsOne Sort) (sym q) o)
@@ -162,6 +166,21 @@ module _ (s : List ℕ) (S : Session) (k : Kind) (h : List Call) where
       go true false true false = (refl, refl)
       go true false false z = (refl, refl)
 
+  turned : (c : Change) (t o l : ℕ) → Next s S k h (change c t o l)
+  turned c t o l =
+      let told = paper-more s S k h (change c t o l) in
+      let (r, g) = go (eqb (S .change h c t o l) 0) (eqb t (typeOf k)) in
+      leaves (is-not Starts (change c t o l) (λ o. o)) (is-not Ends (change c t o l) (λ o. o)) (ap (λ (q : Paper). q .running) told ∙ r) (ap (λ (q : Paper). q .granted) told ∙ g)
+    where
+      after : Bool → Bool → Paper
+      after u v = step (paperIn s S k h) (cond u (cond v (changed c (bufferAt (paperIn s S k h .size) o)) idle) idle)
+
+      go : (u v : Bool) → (after u v .running ≡ paperIn s S k h .running) × (after u v .granted ≡ paperIn s S k h .granted)
+      go false v = (refl, refl)
+      go true true = (refl, refl)
+      go true false = (refl, refl)
+
   pub next : (c : Call) → Next s S k h c
   next (request w a) = asked w a (eqb (S .request h w a .number) 0) (eqb (wordAt a (typeAt (requestOf w .call))) (typeOf k)) refl refl
   next (arrival t f x y other) = arrived t f x y other
+  next (change c t o l) = turned c t o l

@@ -132,7 +132,7 @@ not-false true e = refl
 not-false false e = absurd (true≢false e)
 
 -- the type of a stream names it
-names : (k : Kind) (n : ℕ) → n ≡ typeOf k → (kindOf n ≡ k) × (noStream n ≡ false)
+pub names : (k : Kind) (n : ℕ) → n ≡ typeOf k → (kindOf n ≡ k) × (noStream n ≡ false)
 names k n e = (ap kindOf e ∙ go k .0, ap noStream e ∙ go k .1)
   where
     go : (k : Kind) → (kindOf (typeOf k) ≡ k) × (noStream (typeOf k) ≡ false)

@@ -7,6 +7,7 @@ use Rattle.claims.specs.Demands.{Demand1, Demand2, Demand3, Counts, Answers}
 use Rattle.claims_together.specs.Waiting.{StoppedOrIdle}
 use Rattle.claims_together.specs.Sizes.{NearestSizes}
 use Rattle.claims_together.specs.Crops.{FieldsApart}
+use Rattle.claims_together.specs.Mapped.{MapsKept}
 
 pub record Meets (M : Machine) : Type 0 where
   pub demand-1 : (s : List ℕ) (m : Kind → List ℕ) → Demand1 s m (M s m)
@@ -18,3 +19,4 @@ pub record Meets (M : Machine) : Type 0 where
   pub stopped-or-idle : (s : List ℕ) (m : Kind → List ℕ) (k : Kind) → StoppedOrIdle (M s m) k
   pub nearest-sizes : (s : List ℕ) (m : Kind → List ℕ) → NearestSizes s (M s m)
   pub fields-apart : (s : List ℕ) (m : Kind → List ℕ) → FieldsApart (M s m)
+  pub maps-kept : (s : List ℕ) (m : Kind → List ℕ) (k : Kind) → MapsKept (M s m) k

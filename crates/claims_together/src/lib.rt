@@ -1,5 +1,5 @@
 // What the demands of `claims` say together: what a client may read from DQBUF, what a walk of all sizes gives, that a crop keeps the fields
-// apart, that our device meets all of them, and that they leave no room. As there, nothing runs: each function is named after a claim, and
+// apart, that what is mapped is not granted anew, that our device meets all of them, and that they leave no room. As there, nothing runs: each function is named after a claim, and
 // its contract is the claim.
 ghost use mathlib.Core.Path.{_≡_};
 ghost use mathlib.Core.Bool.{true};
@@ -10,6 +10,7 @@ ghost use Rattle.claims.specs.Device.{machineOf, ourDevice};
 ghost use Rattle.claims_together.specs.Waiting.{StoppedOrIdle};
 ghost use Rattle.claims_together.specs.Sizes.{NearestSizes};
 ghost use Rattle.claims_together.specs.Crops.{FieldsApart};
+ghost use Rattle.claims_together.specs.Mapped.{MapsKept};
 ghost use Rattle.claims_together.specs.Meets.{Meets};
 ghost use Rattle.claims_together.specs.NoRoom.{NoRoom};
 
@@ -30,6 +31,13 @@ pub fn nearest_sizes() -> bool
 // What G_CROP tells lies inside the bounds that CROPCAP tells, with its top at an even distance from theirs: at opening, and after every call.
 pub fn fields_apart() -> bool
     ensures { λ r. ⌜ (r ≡ true) × ((s : List ℕ) (m : Kind → List ℕ) → FieldsApart (machineOf ourDevice s m)) ⌝ }
+{
+    true
+}
+
+// Of each stream: buffers are granted only when every place has been unmapped as often as it was mapped, and flag 1 tells which places have not.
+pub fn maps_kept() -> bool
+    ensures { λ r. ⌜ (r ≡ true) × ((s : List ℕ) (m : Kind → List ℕ) (k : Kind) → MapsKept (machineOf ourDevice s m) k) ⌝ }
 {
     true
 }

@@ -8,14 +8,14 @@ use Rattle.stream_run.specs.declared.Reply.the-variants.{Done, Granted, Returne
 use Rattle.stream_queue.specs.Queueing.{dequeueOf}
 use Rattle.stream_status.specs.Buffer.{returnedOf}
 use Rattle.buffer_replies.specs.Replies.{bufferReply}
-use Rattle.buffer_calls.specs.Buffers.{StreamAnswer, stepped, mapped}
+use Rattle.buffer_calls.specs.Buffers.{StreamAnswer, stepped, ofMemory}
 
 -- DQBUF: the buffer handed over, unless it is refused
-abbrev pub dequeueReply : Reply → ℕ → ℕ → List ℕ → List ℕ
-dequeueReply (Returned f) kind size a = sets a 0 (bufferReply kind (returnedOf f size))
-dequeueReply (Refused why) kind size a = a
-dequeueReply Done kind size a = a
-dequeueReply (Granted n) kind size a = a
+abbrev pub dequeueReply : Reply → Stream → ℕ → ℕ → List ℕ → List ℕ
+dequeueReply (Returned f) s kind size a = sets a 0 (bufferReply kind (returnedOf (s .maps) f size))
+dequeueReply (Refused why) s kind size a = a
+dequeueReply Done s kind size a = a
+dequeueReply (Granted n) s kind size a = a
 
 unfoldable pub dqbufOf : Stream → ℕ → ℕ → List ℕ → StreamAnswer
-dqbufOf s kind size a = mapped 48 s a (stepped (dequeueOf s) (dequeueReply (dequeueOf s .reply) kind size a))
+dqbufOf s kind size a = ofMemory 48 s a (stepped (dequeueOf s) (dequeueReply (dequeueOf s .reply) (dequeueOf s .stream) kind size a))

@@ -17,7 +17,7 @@ pub fn dqbuf(s: &mut Words, kind: u32, size: u32, argument: &mut [u8]) -> u32
     }
     match stream_queue::dequeue(s) {
         Reply::Returned(f) => {
-            buffer_replies::put_buffer(argument, kind, stream_status::returned(f, size));
+            buffer_replies::put_buffer(argument, kind, stream_status::returned(s, f, size));
             0
         }
         Reply::Refused(why) => ioctl_table::errno(why),

@@ -5,7 +5,7 @@ use Prim.Native.Nat.{ℕ, zero, suc, _<_}
 use native.Mathlib.Omega.{arith}
 use Rattle.ioctl_table.specs.Refusal.{errnoOf, numbered}
 use Rattle.ioctl_table.specs.declared.refusals.Refusal.{Refusal}
-use Rattle.ioctl_table.specs.declared.refusals.Refusal.the-variants.{ArgumentLength, MemoryLength, Closed, UnknownWord, WrongType, WrongMemory, NoSuchIndex, NoSuchControl, NotDequeued, NoBuffers, NotStreaming, ControlDisabled, ControlReadOnly, ControlIsButton, BadSheet, MemoryTooLong, NoSuchPlane, BuffersExist, Streaming, ControlGrabbed, OutOfRange, NothingOutgoing, RunFull, BadLines, BadBlock}
+use Rattle.ioctl_table.specs.declared.refusals.Refusal.the-variants.{ArgumentLength, MemoryLength, Closed, UnknownWord, WrongType, WrongMemory, NoSuchIndex, NoSuchControl, NotDequeued, NoBuffers, NotStreaming, ControlDisabled, ControlReadOnly, ControlIsButton, BadSheet, MemoryTooLong, NoSuchPlane, NoSuchBuffer, NotMapped, BuffersExist, StillMapped, Streaming, ControlGrabbed, OutOfRange, NothingOutgoing, RunFull, MapsFull, BadLines, BadBlock}
 
 -- every refusal gives one of the seven numbers
 pub errno-known : (r : Refusal) → numbered (errnoOf r) ≡ true
@@ -26,12 +26,16 @@ errno-known ControlIsButton = refl
 errno-known BadSheet = refl
 errno-known MemoryTooLong = refl
 errno-known NoSuchPlane = refl
+errno-known NoSuchBuffer = refl
+errno-known NotMapped = refl
 errno-known BuffersExist = refl
+errno-known StillMapped = refl
 errno-known Streaming = refl
 errno-known ControlGrabbed = refl
 errno-known OutOfRange = refl
 errno-known NothingOutgoing = refl
 errno-known RunFull = refl
+errno-known MapsFull = refl
 errno-known BadLines = refl
 errno-known BadBlock = refl
 

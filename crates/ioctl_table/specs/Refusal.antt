@@ -4,7 +4,7 @@ use mathlib.Core.List.{List, [], _∷_}
 use Prim.Native.Nat.{ℕ}
 use lib.Dec.{eqb}
 use Rattle.ioctl_table.specs.declared.refusals.Refusal.{Refusal}
-use Rattle.ioctl_table.specs.declared.refusals.Refusal.the-variants.{ArgumentLength, MemoryLength, Closed, UnknownWord, WrongType, WrongMemory, NoSuchIndex, NoSuchControl, NotDequeued, NoBuffers, NotStreaming, ControlDisabled, ControlReadOnly, ControlIsButton, BadSheet, MemoryTooLong, NoSuchPlane, BuffersExist, Streaming, ControlGrabbed, OutOfRange, NothingOutgoing, RunFull, BadLines, BadBlock}
+use Rattle.ioctl_table.specs.declared.refusals.Refusal.the-variants.{ArgumentLength, MemoryLength, Closed, UnknownWord, WrongType, WrongMemory, NoSuchIndex, NoSuchControl, NotDequeued, NoBuffers, NotStreaming, ControlDisabled, ControlReadOnly, ControlIsButton, BadSheet, MemoryTooLong, NoSuchPlane, NoSuchBuffer, NotMapped, BuffersExist, StillMapped, Streaming, ControlGrabbed, OutOfRange, NothingOutgoing, RunFull, MapsFull, BadLines, BadBlock}
 
 -- the number that is given back for a refusal, under the reason for it
 abbrev pub errnoOf : Refusal → ℕ
@@ -42,8 +42,14 @@ errnoOf BadSheet = 22
 errnoOf MemoryTooLong = 22
 -- the present format has no plane of this number, or the frame lent is not of its length
 errnoOf NoSuchPlane = 22
+-- no granted buffer has this offset and this length
+errnoOf NoSuchBuffer = 22
+-- the buffer to be unmapped is not mapped
+errnoOf NotMapped = 22
 -- the format is to change while there are buffers of the present one
 errnoOf BuffersExist = 16
+-- new buffers are asked for, or the present ones given up, while one of them is mapped
+errnoOf StillMapped = 16
 -- new buffers are asked for while the stream runs
 errnoOf Streaming = 16
 -- the control is grabbed, and cannot be set now
@@ -54,6 +60,8 @@ errnoOf OutOfRange = 34
 errnoOf NothingOutgoing = 11
 -- the run has accepted all the arrivals that it can number
 errnoOf RunFull = 75
+-- the buffer is mapped as often as can be counted
+errnoOf MapsFull = 75
 -- lines to be packed break a rule, or the block lent is not of their length
 errnoOf BadLines = 22
 -- a block to be read breaks a rule, or what is lent for its lines is not of their length

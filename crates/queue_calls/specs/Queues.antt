@@ -9,7 +9,7 @@ use Rattle.stream_run.specs.declared.Reply.the-variants.{Done, Granted, Returne
 use Rattle.stream_queue.specs.Queueing.{enqueueOf}
 use Rattle.stream_status.specs.Buffer.{statusOf}
 use Rattle.buffer_replies.specs.Replies.{bufferReply}
-use Rattle.buffer_calls.specs.Buffers.{StreamAnswer, stepped, mapped}
+use Rattle.buffer_calls.specs.Buffers.{StreamAnswer, stepped, ofMemory}
 
 -- QBUF: the buffer as it is then, unless it is refused
 abbrev pub enqueueReply : Reply → Stream → ℕ → ℕ → List ℕ → List ℕ
@@ -20,4 +20,4 @@ enqueueReply (Returned f) s kind size a = a
 
 unfoldable pub qbufOf : Stream → ℕ → ℕ → List ℕ → StreamAnswer
 qbufOf s kind size a =
-    mapped 48 s a (stepped (enqueueOf s (wordAt a 0)) (enqueueReply (enqueueOf s (wordAt a 0) .reply) (enqueueOf s (wordAt a 0) .stream) kind size a))
+    ofMemory 48 s a (stepped (enqueueOf s (wordAt a 0)) (enqueueReply (enqueueOf s (wordAt a 0) .reply) (enqueueOf s (wordAt a 0) .stream) kind size a))

@@ -19,7 +19,7 @@ pub fn qbuf(s: &mut Words, kind: u32, size: u32, argument: &mut [u8]) -> u32
     let room = stream_line::has_room(s);
     match stream_queue::enqueue(s, k) {
         Reply::Done => {
-            buffer_replies::put_buffer(argument, kind, stream_status::queued(k, room, size));
+            buffer_replies::put_buffer(argument, kind, stream_status::queued(s, k, room, size));
             0
         }
         Reply::Refused(why) => ioctl_table::errno(why),

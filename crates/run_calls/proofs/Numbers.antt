@@ -13,6 +13,7 @@ use Rattle.ioctl_table.specs.declared.refusals.Refusal.the-variants.{WrongMemor
 use Rattle.stream_words.specs.declared.Filled.{Filled}
 use Rattle.stream_words.specs.Stream.{Stream}
 use Rattle.stream_words.specs.Moves.{isIncoming, isOutgoing, oldestOf}
+use Rattle.stream_maps.specs.Maps.{anyMapped}
 use Rattle.stream_run.specs.Stream.{streaming}
 use Rattle.stream_run.specs.Switches.{Step, requestBuffersOf, startOf, stopOf}
 use Rattle.stream_queue.specs.Queueing.{handedOver, enqueueOf, dequeueOf}
@@ -38,9 +39,9 @@ handed-number s [] = refl
 handed-number s (f ∷ o) = rw (ne-eqb (length (f ∷ o)) 0 (λ e. omega arith))
 
 module _ (s : Stream) (kind size : ℕ) (a : List ℕ) where
-  pub reqbufs-number : reqbufsOf s kind size a .number ≡ cond (not (eqb (wordAt a 8) 1)) 22 (cond (streaming s && not (eqb (wordAt a 0) 0)) 16 0)
+  pub reqbufs-number : reqbufsOf s kind size a .number ≡ cond (not (eqb (wordAt a 8) 1)) 22 (cond (anyMapped (s .maps)) 16 (cond (streaming s && not (eqb (wordAt a 0) 0)) 16 0))
   unfolding reqbufsOf requestBuffersOf
-  reqbufs-number = memory-by (not (eqb (wordAt a 8) 1)) s a _ _ (reply-by (streaming s && not (eqb (wordAt a 0) 0)) _ _ 0 refl)
+  reqbufs-number = memory-by (not (eqb (wordAt a 8) 1)) s a _ _ (reply-by (anyMapped (s .maps)) _ _ _ (reply-by (streaming s && not (eqb (wordAt a 0) 0)) _ _ 0 refl))
 
   pub querybuf-number : querybufOf s kind size a .number ≡ cond (leb (s .queues .granted) (wordAt a 0)) 22 0
   unfolding querybufOf queryOf

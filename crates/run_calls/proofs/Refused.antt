@@ -9,10 +9,11 @@ use lib.ListN.{length}
 use lib.Seq.{sets, length-sets}
 use Rattle.wire_read.specs.Words.{wordAt}
 use Rattle.ioctl_table.specs.Refusal.{errnoOf}
-use Rattle.ioctl_table.specs.declared.refusals.Refusal.the-variants.{WrongMemory, NoSuchIndex, NotDequeued, NoBuffers, NotStreaming, Streaming}
+use Rattle.ioctl_table.specs.declared.refusals.Refusal.the-variants.{WrongMemory, NoSuchIndex, NotDequeued, NoBuffers, NotStreaming, StillMapped, Streaming}
 use Rattle.stream_words.specs.declared.Filled.{Filled}
 use Rattle.stream_words.specs.Stream.{Stream}
 use Rattle.stream_words.specs.Moves.{isIncoming, isOutgoing, oldestOf}
+use Rattle.stream_maps.specs.Maps.{anyMapped}
 use Rattle.stream_run.specs.declared.Reply.the-variants.{Done, Granted}
 use Rattle.stream_run.specs.Stream.{streaming}
 use Rattle.stream_run.specs.Switches.{Step, answers, refuses, requestBuffersOf, startOf, stopOf}
@@ -48,11 +49,15 @@ module _ (s : Stream) (a : List ℕ) where
   module _ (kind size : ℕ) where
     pub reqbufs-honest : HonestStream s a (reqbufsOf s kind size a)
     unfolding reqbufsOf requestBuffersOf
-    reqbufs-honest = memory-honest (not (eqb (wordAt a 8) 1)) _ (go (streaming s && not (eqb (wordAt a 0) 0)) _ _)
+    reqbufs-honest = memory-honest (not (eqb (wordAt a 8) 1)) _ (go (anyMapped (s .maps)) (streaming s && not (eqb (wordAt a 0) 0)) _ _)
       where
-        go : (x : Bool) (n : ℕ) (t : Stream) → HonestStream s a (stepped (cond x (refuses Streaming s) (answers (Granted n) t)) (requestReply (cond x (refuses Streaming s) (answers (Granted n) t) .reply) kind a))
-        go true n t = refused-honest _
-        go false n t = done-honest t (buffersReply kind n)
+        z : Bool → Bool → ℕ → Stream → Step
+        z x y n t = cond x (refuses StillMapped s) (cond y (refuses Streaming s) (answers (Granted n) t))
+
+        go : (x y : Bool) (n : ℕ) (t : Stream) → HonestStream s a (stepped (z x y n t) (requestReply (z x y n t .reply) kind a))
+        go true y n t = refused-honest _
+        go false true n t = refused-honest _
+        go false false n t = done-honest t (buffersReply kind n)
 
     pub querybuf-honest : HonestStream s a (querybufOf s kind size a)
     unfolding querybufOf
@@ -81,11 +86,11 @@ module _ (s : Stream) (a : List ℕ) where
         t : Bool → Bool → List Filled → Step
         t x y o = cond x (refuses NoBuffers s) (cond y (refuses NotStreaming s) (handedOver (oldestOf o) s))
 
-        go : (x y : Bool) (o : List Filled) → HonestStream s a (stepped (t x y o) (dequeueReply (t x y o .reply) kind size a))
+        go : (x y : Bool) (o : List Filled) → HonestStream s a (stepped (t x y o) (dequeueReply (t x y o .reply) (t x y o .stream) kind size a))
         go true y o = refused-honest _
         go false true o = refused-honest _
         go false false [] = refused-honest _
-        go false false (f ∷ o) = done-honest _ (bufferReply kind (returnedOf f size))
+        go false false (f ∷ o) = done-honest _ (bufferReply kind (returnedOf (s .maps) f size))
 
     pub streamon-honest : HonestStream s a (streamonOf s kind size a)
     unfolding streamonOf startOf

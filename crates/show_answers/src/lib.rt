@@ -1,7 +1,8 @@
 // How the answer of an event is said, by the event's letter, from the words of its argument: the crate `show_calls` has the letters. No contract
 // here says more than that each function is safe and ends.
 
-// What is answered: a line for each letter of a call, for the kinds 0 to 4 of what becomes of an arrival, for the verdicts 0 to 3.
+// What is answered: a line for each letter of a call, for the kinds 0 to 4 of what becomes of an arrival, for the verdicts 0 to 3,
+// and for the flags of a buffer that is mapped.
 fn told(letter: u8, a: &[u8]) {
     show_lines::told(
         b"c, driver %s\x00, card %s\x10, bus %s\x30, version %x\x50, capabilities %x\x54\n\
@@ -35,7 +36,8 @@ fn told(letter: u8, a: &[u8]) {
         5RUNNING\n\
         6BLANK\n\
         7GAPS\n\
-        8COMPLETE\n",
+        8COMPLETE\n\
+        9, flags %d\x0c\n",
         letter,
         a,
     );
@@ -76,6 +78,14 @@ fn load(a: &[u8], memory: &[u8]) {
     show_text::long((wire_read::word_at(line, 16) % 65536) as u64);
 }
 
+// Whether a buffer that is handed in or over is told as mapped: only then are its flags said.
+fn mapped(c: u8, a: &[u8]) -> bool {
+    match c {
+        b'q' | b'd' => wire_read::word_at(a, 12) % 2 == 1,
+        _ => false,
+    }
+}
+
 // The number that came back, and the answer of an accepted call, with the memories of pictures and of captions.
 fn called(c: u8, number: u32, a: &[u8], pictures: &[u8], captions: &[u8]) {
     show_text::number(b": ", number);
@@ -88,6 +98,9 @@ fn called(c: u8, number: u32, a: &[u8], pictures: &[u8], captions: &[u8]) {
         b'd' => picture(a, pictures),
         b'L' => load(a, captions),
         _ => (),
+    }
+    if mapped(c, a) {
+        told(b'9', a);
     }
 }
 

@@ -1,12 +1,30 @@
 // A stream of buffers, and what can be asked of it, by letters. The number of a call stands in its argument, and so does the answer:
 //   r REQBUFS, b QUERYBUF, q QBUF, d DQBUF, s STREAMON, t STREAMOFF; the letter of an answer is the capital one of its call, N where the
 //   argument has the number of a refusal, and X where a frame is handed over that does not stand in memory as it arrived
+//   j a buffer is mapped, y unmapped, by its index; i buffer 0 is mapped as often as the number says; of a refusal the last number is told
 //   v the verdict, which answers with a digit from 5 on; h the record of the run, which answers H
 //   a line's end, and k with the memory's length, make the stream anew; a and e put a run to counts that no list could reach: 4,294,967,294
 //   arrivals, and 9,223,372,036,854,775,805, each accepted and handed over
 // No contract here says more than that each function is safe and ends.
 use show_arrivals::Event;
+use stream_maps::Change;
 use stream_words::Words;
+
+// Buffer k is mapped or unmapped, by the offset and the length that QUERYBUF tells of it.
+fn mapped(s: &mut Words, c: Change, k: u32, size: u32) -> u32 {
+    let offset = stream_words::low(stream_slots::slot_offset(k, size));
+    let length = stream_words::low(stream_slots::slot_size(size));
+    stream_run::reply_number(stream_mmap::change(s, c, size, offset, length))
+}
+
+// Buffer 0 is mapped so often; the number of the last of these calls.
+fn often(s: &mut Words, times: u32, size: u32) -> u32 {
+    let mut number = 0;
+    for _ in 0..times {
+        number = mapped(s, Change::Map, 0, size);
+    }
+    number
+}
 
 fn asked(s: &mut Words, c: u8, size: u32, a: &mut [u8]) -> u32 {
     match c {
@@ -15,6 +33,9 @@ fn asked(s: &mut Words, c: u8, size: u32, a: &mut [u8]) -> u32 {
         b'q' => queue_calls::qbuf(s, 1, size, a),
         b'd' => dequeue_calls::dqbuf(s, 1, size, a),
         b's' => run_calls::streamon(s),
+        b'j' => mapped(s, Change::Map, wire_read::word_at(a, 0), size),
+        b'y' => mapped(s, Change::Unmap, wire_read::word_at(a, 0), size),
+        b'i' => often(s, wire_read::word_at(a, 0), size),
         _ => run_calls::streamoff(s),
     }
 }
@@ -88,7 +109,13 @@ fn other(s: &mut Words, length: u32, c: u8, a: &mut [u8]) -> u8 {
 pub fn event(s: &mut Words, memory: &[u8], e: Event, a: &mut [u8]) -> u8 {
     let c = e.letter;
     match c {
-        b'r' | b'b' | b'q' | b'd' | b's' | b't' => call(s, memory, c, e.size, a),
+        b'r' | b'b' | b'q' | b'd' | b's' | b't' | b'j' | b'y' | b'i' => call(
+            s,
+            memory,
+            c,
+            e.size,
+            a,
+        ),
         _ => other(s, e.length, c, a),
     }
 }

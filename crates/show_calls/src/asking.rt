@@ -1,7 +1,7 @@
 // Calls by their letters. Request words and codes of formats are written out once more here: a client asks by number.
 
 // The first words of an argument; the others are 0.
-type Words = [u32; 13];
+type Words = [u32; 15];
 
 pub fn word(c: u8) -> u32 {
     match c {
@@ -46,7 +46,12 @@ pub fn lent(a: &mut [u8], c: u8) -> &mut [u8] {
 }
 
 fn words(a: u32, b: u32, c: u32, d: u32, e: u32, f: u32) -> Words {
-    [a, b, c, d, e, f, 0, 0, 0, 0, 0, 0, 0]
+    [a, b, c, d, e, f, 0, 0, 0, 0, 0, 0, 0, 0, 0]
+}
+
+// A buffer of the one kind of memory, by its index and type, with an offset and a length.
+fn buffer(index: u32, kind: u32, offset: u32, length: u32) -> Words {
+    [index, kind, 0, 0, 0, 0, 0, 0, 0, 0, 0, 0, 1, offset, length]
 }
 
 // The type of the stream that is asked, where the first of two numbers names it: pictures where there is none.
@@ -79,7 +84,8 @@ pub(crate) fn argument(c: u8, x: u32, n: u32) -> Words {
         b'f' | b't' => words(1, x, n, 0x56595559, 0, 7),
         b'P' | b'T' => words(1, x, n, 0x32315559, 0, 7),
         b'N' => words(1, x, n, 0x3231564E, 0, 7),
-        b'b' | b'q' | b'd' => [n, kind(x), 0, 0, 0, 0, 0, 0, 0, 0, 0, 0, 1],
+        b'b' | b'q' | b'd' | b'm' | b'n' => buffer(n, kind(x), 0, 0),
+        b'M' | b'W' => buffer(0, 1, x, n),
         b'e' => words(n, 1, 0, 0, 0, 0),
         b'r' => words(n, kind(x), 1, 0, 0, 0),
         b'S' => words(x, n, 0, 0, 0, 0),

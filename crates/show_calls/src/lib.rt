@@ -5,6 +5,7 @@
 //   c QUERYCAP, e ENUM_FMT, g G_FMT; f S_FMT of YUYV, P of YU12, N of NV12; t TRY_FMT of YUYV, T of YU12
 //   F S_FMT of captions with a set of services, E TRY_FMT, V G_SLICED_VBI_CAP
 //   r REQBUFS, b QUERYBUF, q QBUF, d DQBUF, s STREAMON, o STREAMOFF; these, g and v are about captions where 6 is the first of two numbers
+//   m a buffer is mapped, n unmapped, of captions where 6 is the first of two numbers; M and W the same by an offset and a length, of pictures
 //   G G_CTRL, S S_CTRL, Q QUERYCTRL, C CROPCAP, k G_CROP, K S_CROP with left and width, J with top and height
 //   u a word that is not known, l an argument one byte short, y a wrong type
 //   w a whole frame arrives, h one that is a byte short, z one of type 2, with seconds and microseconds; v the verdict

@@ -25,6 +25,10 @@ fn said(c: u8, a: &[u8]) {
         dDQBUF\n\
         sSTREAMON\n\
         oSTREAMOFF\n\
+        mmap %d\x00\n\
+        nunmap %d\x00\n\
+        Mmap offset %d\x34 length %d\x38\n\
+        Wunmap offset %d\x34 length %d\x38\n\
         GG_CTRL %x\x00\n\
         SS_CTRL %x\x00 %i\x04\n\
         QQUERYCTRL %x\x00\n\
@@ -52,7 +56,7 @@ fn said(c: u8, a: &[u8]) {
 // Whether a call that can be about either stream is about captions.
 fn of_captions(c: u8, x: u32) -> bool {
     match c {
-        b'g' | b'r' | b'b' | b'q' | b'd' | b's' | b'o' | b'v' => x == 6,
+        b'g' | b'r' | b'b' | b'q' | b'd' | b's' | b'o' | b'v' | b'm' | b'n' => x == 6,
         _ => false,
     }
 }

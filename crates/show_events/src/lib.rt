@@ -15,6 +15,7 @@ pub type Captions = [u8; 8192];
 fn done(d: Device, pictures: &mut Memory, captions: &mut Captions, c: u8, a: &mut [u8]) -> Made {
     match c {
         b'B' | b'D' | b'U' | b'O' | b'I' => show_opening::open(a),
+        b'm' | b'n' | b'M' | b'W' => show_maps::change(d, c, a),
         b'w' | b'h' | b'z' => show_frames::arrive(d, pictures, a),
         b'a' | b'A' | b'i' => show_frames::arrive(d, captions, a),
         b'v' | b'p' | b'#' => {

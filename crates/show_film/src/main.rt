@@ -46,6 +46,12 @@ fn main() {
             2x0w 251x2a 3x0w 249x3a d 6xd d 6xd d 6xd o 6xo v 6xv\n\
         5c. The captions alone have a gap\n\
             1048576x8192O 300x225f 10r 0q 1q s 4096F 6x10r 6x0q 6x1q 6xs 1x0w 250x1a \
-            2x0w 251x2A d 6xd 0q 3x0w 249x3i d d 6xd o 6xo v 6xv",
+            2x0w 251x2A d 6xd 0q 3x0w 249x3i d d 6xd o 6xo v 6xv\n\
+        6a. A mapped buffer is not given away\n\
+            1048576B 300x225f 10r 1b 1m 1b 0b 0r 4r 1q 0q s 0r 1b 1x0w 1b 2x40000w d d o v 1b 0r \
+            143361x143360M 1003520x143360M 143360x143359M 143360x0M 0x143360W 143360x143360W 1n 1b \
+            2m 143360x143360M 2m 2n 1n 4r 2n 4r 0b 1b 2b 3b\n\
+        6b. The maps of captions are their own\n\
+            1048576x8192O 300x225f 10r 4096F 6x10r 6x1m 6x1b 1b 0r 10r 6x0r 0m 6x1n 6x0r 0r 0n 0r",
     );
 }

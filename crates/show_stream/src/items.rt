@@ -8,6 +8,9 @@ pub(crate) fn told(letter: u8, a: &[u8]) {
         d DQBUF\n\
         s STREAMON\n\
         t STREAMOFF\n\
+        j map %d\x00\n\
+        y unmap %d\x00\n\
+        i map 0, %d\x00 times\n\
         v verdict: \n\
         h record: \n\
         w arrival\n\
@@ -35,6 +38,9 @@ pub(crate) fn told(letter: u8, a: &[u8]) {
         Q: 0;\n\
         S: 0;\n\
         T: 0;\n\
+        J: 0;\n\
+        Y: 0;\n\
+        I: 0;\n\
         D: returned %d\x00 number %d\x2c used %d\x08 time %t\x14 intact;\n\
         X: returned %d\x00 number %d\x2c used %d\x08 time %t\x14 SPOILT;\n\
         B: flags %d\x0c used %d\x08 number %d\x2c time %t\x14 offset %d\x34 length %d\x38;\n\

@@ -30,7 +30,7 @@ nextNumber n = (n + 1) % 2 ^ 32
 
 -- with the arrival that is accepted the number goes on
 abbrev pub counted : Stream → Stream
-counted s = record { length = s .length; streaming = s .streaming; run = countedRun (s .run); number = nextNumber (s .number); queues = s .queues }
+counted s = record { length = s .length; streaming = s .streaming; run = countedRun (s .run); number = nextNumber (s .number); queues = s .queues; maps = s .maps }
 
 -- one more was damaged
 abbrev pub damagedRun : Run → Run

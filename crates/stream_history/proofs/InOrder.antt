@@ -12,12 +12,14 @@ use Rattle.stream_run.specs.declared.Reply.the-variants.{Done, Returned}
 use Rattle.stream_run.specs.Stream.{reduced}
 use Rattle.stream_run.specs.Switches.{requestBuffersOf, startOf, stopOf}
 use Rattle.stream_queue.specs.Queueing.{enqueueOf, dequeueOf}
+use Rattle.stream_slots.specs.Slot.{bufferAt}
+use Rattle.stream_mmap.specs.Mapping.{changeOf}
 use Rattle.stream_arrival.specs.declared.Arrival.the-variants as arrivals
 use Rattle.stream_history.specs.Calls.{Call, Answer, World, opened, arrives, sizeReply, answer, next, after}
-use Rattle.stream_history.specs.Calls.Call.{request, enqueue, dequeue, start, stop, resize, arrival, other}
+use Rattle.stream_history.specs.Calls.Call.{request, enqueue, dequeue, start, stop, resize, change, arrival, other}
 use Rattle.stream_history.specs.Calls.Answer.{replied, arrived}
 use Rattle.stream_history.specs.Paper.{Pair, Paper, Event, blank, refusedReply, refusedArrival, grantIn, told, frameOf, filled, step, noted, events, wholes, dequeues, Calm}
-use Rattle.stream_history.specs.Paper.Event.{put, whole, damaged, handed, begun, ended, sized, idle}
+use Rattle.stream_history.specs.Paper.Event.{put, whole, damaged, handed, begun, ended, sized, changed, idle}
 use Rattle.stream_history.specs.Claims.{paperAfter, worldAfter, slotBytes, Stores, ArrivalAmong, Returns}
 use Rattle.stream_history.proofs.Lists.{All, all-append}
 use Rattle.stream_history.proofs.Sound.{Fits}
@@ -81,6 +83,7 @@ isWhole handed = false
 isWhole begun = false
 isWhole (ended n) = false
 isWhole (sized n) = false
+isWhole (changed c k) = false
 isWhole idle = false
 
 pub never : (e : Event) (b : List ℕ) (t : Time) {A : Type 0} → isWhole e ≡ false → e ≡ whole b t → A
@@ -100,6 +103,7 @@ whole-call w p start b t h =
     (elim (p .running) as (λ x. isWhole (cond x idle begun) ≡ false) [ true ↦ refl | false ↦ refl ]) h
 whole-call w p stop b t h = unless (refusedReply (stopOf (w .stream) .reply)) (ended (p .granted)) b t refl h
 whole-call w p (resize n) b t h = unless (refusedReply (sizeReply (w .stream .queues .granted))) (sized n) b t refl h
+whole-call w p (change c o l) b t h = unless (refusedReply (changeOf c (w .stream) (w .size) o l .reply)) (changed c (bufferAt (p .size) o)) b t refl h
 whole-call w p other b t h = never idle b t refl h
 whole-call w p (arrival d u fl lends) b t h = go (refusedArrival (arrives w d u fl lends .arrival)) (p .running) (fl && leb (length d) (p .size)) h
   where

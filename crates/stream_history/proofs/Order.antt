@@ -7,7 +7,7 @@ use lib.ListN.{length, length-append}
 use mathlib.Core.List.{List, [], _∷_, _++_, append-assoc}
 use Rattle.stream_words.specs.declared.Time.{Time}
 use Rattle.stream_history.specs.Paper.{Frame, Pair, Paper, Event, frameOf, rest, filled, step, noted, wholes, dequeues, Calm}
-use Rattle.stream_history.specs.Paper.Event.{put, whole, damaged, handed, begun, ended, sized, idle}
+use Rattle.stream_history.specs.Paper.Event.{put, whole, damaged, handed, begun, ended, sized, changed, idle}
 use Rattle.stream_history.proofs.Sound.{Fits}
 
 -- each event is one that a stream can make
@@ -30,6 +30,7 @@ first-in (handed ∷ es) p a k b h c n = first-in es (step p handed) a k b h c n
 first-in (begun ∷ es) p a k b h c n = first-in es (step p begun) a k b h c n
 first-in (ended m ∷ es) p a k b h c n = absurd c
 first-in (sized m ∷ es) p a k b h c n = first-in es (step p (sized m)) a k b h c n
+first-in (changed d j ∷ es) p a k b h c n = first-in es (step p (changed d j)) a k b h c n
 first-in (idle ∷ es) p a k b h c n = first-in es p a k b h c n
 
 filled-keeps : (i : List ℕ) (f : Frame) (a : List Pair) (x : Pair) (b : List Pair) → (r : List Pair) × (filled i f (a ++ x ∷ b) ≡ a ++ x ∷ r)
@@ -51,6 +52,7 @@ first-out (handed ∷ es) p (y ∷ a) x b h c n = first-out es (step p handed) a
 first-out (begun ∷ es) p a x b h c n = first-out es (step p begun) a x b h c n
 first-out (ended m ∷ es) p a x b h c n = absurd c
 first-out (sized m ∷ es) p a x b h c n = first-out es (step p (sized m)) a x b h c n
+first-out (changed d j ∷ es) p a x b h c n = first-out es (step p (changed d j)) a x b h c n
 first-out (idle ∷ es) p a x b h c n = first-out es p a x b h c n
 
 -- ---- how many are outgoing
@@ -78,6 +80,7 @@ out-bound (handed ∷ es) p c l = omega (arith, out-bound es (step p handed) c (
 out-bound (begun ∷ es) p c l = out-bound es (step p begun) c (l .1)
 out-bound (ended m ∷ es) p c l = absurd c
 out-bound (sized m ∷ es) p c l = out-bound es (step p (sized m)) c (l .1)
+out-bound (changed d j ∷ es) p c l = out-bound es (step p (changed d j)) c (l .1)
 out-bound (idle ∷ es) p c l = out-bound es p c (l .1)
 
 -- while there are enough incoming buffers, each whole arrival adds one
@@ -96,6 +99,7 @@ out-length (handed ∷ es) p c l h = omega (arith, out-length es (step p handed)
 out-length (begun ∷ es) p c l h = out-length es (step p begun) c (l .1) h
 out-length (ended m ∷ es) p c l h = absurd c
 out-length (sized m ∷ es) p c l h = out-length es (step p (sized m)) c (l .1) h
+out-length (changed d j ∷ es) p c l h = out-length es (step p (changed d j)) c (l .1) h
 out-length (idle ∷ es) p c l h = out-length es p c (l .1) h
 
 -- ---- lists of events that are put together
@@ -113,6 +117,7 @@ calm-append (handed ∷ a) b c = calm-append a b c
 calm-append (begun ∷ a) b c = calm-append a b c
 calm-append (ended m ∷ a) b c = absurd c
 calm-append (sized m ∷ a) b c = calm-append a b c
+calm-append (changed d j ∷ a) b c = calm-append a b c
 calm-append (idle ∷ a) b c = calm-append a b c
 
 legal-append : (a b : List Event) (p : Paper) → Legal p (a ++ b) → Legal p a × Legal (noted p a) b
@@ -128,6 +133,7 @@ dequeues-append (handed ∷ a) b = omega (arith, dequeues-append a b)
 dequeues-append (begun ∷ a) b = dequeues-append a b
 dequeues-append (ended m ∷ a) b = dequeues-append a b
 dequeues-append (sized m ∷ a) b = dequeues-append a b
+dequeues-append (changed d j ∷ a) b = dequeues-append a b
 dequeues-append (idle ∷ a) b = dequeues-append a b
 
 -- the events up to the whole arrival before which n came, it, and the events behind it
@@ -159,6 +165,7 @@ at-whole (handed ∷ es) n h = at-cons handed es n n (λ f e. e) (at-whole es n 
 at-whole (begun ∷ es) n h = at-cons begun es n n (λ f e. e) (at-whole es n h)
 at-whole (ended m ∷ es) n h = at-cons (ended m) es n n (λ f e. e) (at-whole es n h)
 at-whole (sized m ∷ es) n h = at-cons (sized m) es n n (λ f e. e) (at-whole es n h)
+at-whole (changed d j ∷ es) n h = at-cons (changed d j) es n n (λ f e. e) (at-whole es n h)
 at-whole (idle ∷ es) n h = at-cons idle es n n (λ f e. e) (at-whole es n h)
 
 -- ---- a buffer that is handed in

@@ -8,7 +8,7 @@ use mathlib.Core.List.{List, [], _∷_, _++_, map, append-assoc, append-nil, hea
 use lib.ListN.{length, length-append}
 use Rattle.stream_run.specs.Stream.{stoppedRun}
 use Rattle.stream_history.specs.Paper.{Frame, Pair, Paper, Event, blank, frameOf, rest, filled, step, noted, placeInRun, first, given, handedOver, numbersBelow}
-use Rattle.stream_history.specs.Paper.Event.{put, whole, damaged, handed, begun, ended, sized, idle}
+use Rattle.stream_history.specs.Paper.Event.{put, whole, damaged, handed, begun, ended, sized, changed, idle}
 use Rattle.stream_history.proofs.Lists.{map-snoc}
 use Rattle.stream_history.proofs.Sound.{Sound, Fits, sound-step}
 use Rattle.stream_history.proofs.Order.{Legal}
@@ -99,10 +99,11 @@ ordered-step p l (ended n) s f o = go (p .running)
     stays : Rising (l ++ []) (p .run .accepted)
     stays = subst (λ (x : List ℕ). Rising x (p .run .accepted)) (sym (append-nil l)) (rising-part (p .run .accepted) l (map placeInRun (p .outgoing)) (o .rises))
 
-    go : (x : Bool) → Ordered (record { size = p .size; granted = n; running = false; run = cond x (stoppedRun (p .run) (length (p .outgoing))) (p .run); incoming = []; outgoing = [] }) l
+    go : (x : Bool) → Ordered (record { size = p .size; granted = n; running = false; run = cond x (stoppedRun (p .run) (length (p .outgoing))) (p .run); incoming = []; outgoing = []; maps = p .maps }) l
     go true = record { many = o .many; rises = stays }
     go false = record { many = o .many; rises = stays }
 ordered-step p l (sized n) s f o = record { many = o .many; rises = o .rises }
+ordered-step p l (changed c k) s f o = record { many = o .many; rises = o .rises }
 ordered-step p l idle s f o = o
 
 pub ordered-after : (es : List Event) (p : Paper) (l : List ℕ) → Sound p → Legal p es → Ordered p l → Ordered (noted p es) (handedOver p l es)

@@ -2,7 +2,7 @@
 use mathlib.Core.Path.{_≡_, refl, sym, ap, _∙_, subst}
 use mathlib.Core.Logic.{_≢_}
 use mathlib.Core.Bool.{Bool, true, false, cond, not, _&&_, _||_, true≢false, false≢true}
-use Prim.Native.Nat.{ℕ, _+_, _*_, _≤_, _<_}
+use Prim.Native.Nat.{ℕ, _+_, _*_, _≤_, _<_, min}
 use native.Mathlib.Omega.{arith}
 use native.Mathlib.Decide.{decLt}
 use native.Mathlib.Nat.{add-zero}
@@ -11,14 +11,16 @@ use lib.Dec.{leb, eqb}
 use mathlib.Core.List.{List, [], _∷_, _++_, map}
 use lib.ListN.{length, take, drop, length-map}
 use lib.Seq.{sets, length-sets}
-use Rattle.ioctl_table.specs.declared.refusals.Refusal.the-variants.{NoSuchIndex, NotDequeued, NoBuffers, NotStreaming, Streaming, NothingOutgoing, BuffersExist, MemoryLength, RunFull}
+use Rattle.ioctl_table.specs.declared.refusals.Refusal.the-variants.{NoSuchIndex, NotDequeued, NoBuffers, NotStreaming, NoSuchBuffer, StillMapped, Streaming, NothingOutgoing, BuffersExist, MemoryLength, RunFull}
 use Rattle.wire_read.proofs.Parts.{part-before, part-behind, part-stored}
 use Rattle.stream_words.specs.declared.Time.{Time}
 use Rattle.stream_words.specs.declared.Filled.{Filled}
 use Rattle.wire_read.specs.Lists.{any, rest}
-use Rattle.stream_slots.specs.Slot.{slotSize, slotOffset}
-use Rattle.stream_words.specs.Stream.{Queues, withRun, onQueues}
+use Rattle.stream_slots.specs.declared.Slot.the-variants.{NoBuffer, Buffer}
+use Rattle.stream_slots.specs.Slot.{slotSize, slotOffset, isSlot, bufferAt, slotAt}
+use Rattle.stream_words.specs.Stream.{Queues, withRun, withMaps, onQueues}
 use Rattle.stream_words.specs.Moves.{noFrame, ofBuffer, isIncoming, isOutgoing, oldestOf, nextOf, emptied, pushed, filledOldest, popped}
+use Rattle.stream_slots.proofs.At.{slot-is}
 use Rattle.stream_slots.proofs.Slots.{slot-least, slots-apart}
 use Rattle.stream_run.specs.declared.Reply.the-variants.{Done, Granted, Returned, Refused}
 use Rattle.stream_words.specs.Stream.{Run}
@@ -27,7 +29,11 @@ use Rattle.stream_words.specs.Stream.{Stream}
 use Rattle.stream_run.specs.Stream.{oneMore, reduced, Numbered, streaming, freshStream, started, stoppedRun, stopped, handedRun}
 use Rattle.stream_run.specs.Switches.{answers, refuses, grantOf, requestBuffersOf, startOf, stopOf}
 use Rattle.stream_queue.specs.Queueing.{enqueueOf, handedOver, dequeueOf}
-use Rattle.stream_run.proofs.Grants.{grant-few, grant-fits}
+use Rattle.stream_maps.specs.declared.Change.{Change}
+use Rattle.stream_maps.specs.Maps.{mapsOf, anyMapped, blocked, whyNot, moved}
+use Rattle.stream_maps.proofs.Counts.{none-mapped}
+use Rattle.stream_mmap.specs.Mapping.{changedAt, changeOf}
+use Rattle.stream_run.proofs.Grants.{grant-few, grant-fits, grant-slot}
 use Rattle.stream_run.proofs.Numbered.{fresh-numbered, started-numbered, stopped-numbered}
 use Rattle.stream_arrival.specs.declared.Arrival.{Arrival}
 use Rattle.stream_arrival.specs.declared.Arrival.the-variants as arrivals
@@ -35,10 +41,10 @@ use Rattle.stream_arrival.specs.Arrivals.{Arrived}
 use Rattle.stream_arrival.specs.Arrivals.{runLimit, countedRun, counted, damagedRun, droppedRun, arrivedAs as arrives-as, placedIn, placedOf, acceptedOf, arrivalOf, writtenBy}
 use Rattle.stream_arrival.proofs.Cases.{counted-numbered}
 use Rattle.stream_history.specs.Calls.{Call, Answer, World, opened, answer, withStream, next}
-use Rattle.stream_history.specs.Calls.Call.{request, enqueue, dequeue, start, stop, resize, arrival, other}
+use Rattle.stream_history.specs.Calls.Call.{request, enqueue, dequeue, start, stop, resize, change, arrival, other}
 use Rattle.stream_history.specs.Calls.Answer.{replied, arrived}
 use Rattle.stream_history.specs.Paper.{Pair, Paper, Event, indexOf, blank, arrivedWhole, told, frameOf, step}
-use Rattle.stream_history.specs.Paper.Event.{put, whole, damaged, handed, begun, ended, sized, idle}
+use Rattle.stream_history.specs.Paper.Event.{put, whole, damaged, handed, begun, ended, sized, changed, idle}
 use Rattle.stream_history.proofs.Lists.{All, all-snoc, all-append, all-join, all-map, all-both, all-of-map, all-to-map, map-snoc, nodup-before, none-passes}
 use Rattle.stream_history.proofs.Sound.{Sound, Fits, lineOf, line, paper, room-more}
 
@@ -84,6 +90,7 @@ pub record Tied (w : World) (p : Paper) : Type 0 where
   pub holds : Holds (w .stream .queues) (p .granted) (p .incoming) (map entry (p .outgoing))
   pub fits : p .granted * slotSize (p .size) ≤ length (w .memory)
   pub held : All (Held (p .size) (w .memory)) (p .outgoing)
+  pub maps : w .stream .maps ≡ p .maps
 
 pub tied-opened : (size : ℕ) (m : List ℕ) → Tied (opened size m) (blank size)
 unfolding freshStream emptied
@@ -96,6 +103,7 @@ tied-opened size m = record {
   holds = holds-empty 0;
   fits = omega arith;
   held = tt;
+  maps = refl;
 }
 
 -- a whole arrival is stored in the first incoming buffer, or dropped
@@ -117,6 +125,7 @@ Answers p handed a = a ≡ replied (Returned (firstOf (p .outgoing)))
 Answers p begun a = Unit {0}
 Answers p (ended n) a = Unit {0}
 Answers p (sized n) a = Unit {0}
+Answers p (changed c k) a = Unit {0}
 Answers p idle a = Unit {0}
 
 -- What a call does: the event that it tells is one that a stream can make, the answer is the one foretold, and the stream is then
@@ -186,6 +195,7 @@ follows-enqueue w p k t s = go (leb (w .stream .queues .granted) k) refl (isInco
             holds = holds-pushed q (p .granted) (p .incoming) (map entry (p .outgoing)) (t .holds) k (omega (arith, room-more p k s fit, length-map (p .outgoing) entry));
             fits = t .fits;
             held = t .held;
+            maps = t .maps;
           };
         }
 
@@ -201,12 +211,12 @@ handed-run r q e h =
     ap handedRun e
     ∙ ap (λ (n : ℕ). record { ran = q .ran; accepted = q .accepted; handed = n; damaged = q .damaged; dropped = q .dropped; discarded = q .discarded }) (one-more (q .handed) h)
 
-tied-handed : (w : World) (size granted : ℕ) (on : Bool) (r : Run) (i : List ℕ) (o : List Pair)
-    → Tied w (paper size granted on r i o) → Sound (paper size granted on r i o) → 0 < length o
-    → Tied (withStream w (record { length = w .stream .length; streaming = w .stream .streaming; run = handedRun (w .stream .run); number = w .stream .number; queues = popped (w .stream .queues) }))
-    (step (paper size granted on r i o) handed)
-tied-handed w size granted on r i [] t s h = absurd (omega (arith, h))
-tied-handed w size granted on r i (x ∷ o) t s h = record {
+tied-handed : (w : World) (size granted : ℕ) (on : Bool) (r : Run) (v i : List ℕ) (o : List Pair)
+    → Tied w (paper size granted on r v i o) → Sound (paper size granted on r v i o) → 0 < length o
+    → Tied (withStream w (record { length = w .stream .length; streaming = w .stream .streaming; run = handedRun (w .stream .run); number = w .stream .number; queues = popped (w .stream .queues); maps = w .stream .maps }))
+    (step (paper size granted on r v i o) handed)
+tied-handed w size granted on r v i [] t s h = absurd (omega (arith, h))
+tied-handed w size granted on r v i (x ∷ o) t s h = record {
   size = t .size;
   running = t .running;
   run = handed-run (w .stream .run) r (t .run) (omega (arith, s .adds, s .limit));
@@ -215,6 +225,7 @@ tied-handed w size granted on r i (x ∷ o) t s h = record {
   holds = holds-popped (w .stream .queues) granted i (entry x ∷ map entry o) (t .holds);
   fits = t .fits;
   held = t .held .1;
+  maps = t .maps;
 }
 
 follows-handed : (w : World) (p : Paper) (o : List Pair) → p .outgoing ≡ o → Tied w p → Sound p
@@ -227,7 +238,7 @@ follows-handed w p (x ∷ o) e t s =
       tells = refl;
       fits = some;
       foretold = rw e refl;
-      tied = tied-handed w (p .size) (p .granted) (p .running) (p .run) (p .incoming) (p .outgoing) t s some;
+      tied = tied-handed w (p .size) (p .granted) (p .running) (p .run) (p .maps) (p .incoming) (p .outgoing) t s some;
     }
 
 follows-dequeue : (w : World) (p : Paper) → Tied w p → Sound p → Follows (next w dequeue) p dequeue (answer w dequeue)
@@ -260,7 +271,7 @@ follows-start w p t s = go (eqb (w .stream .queues .granted) 0) (streaming (w .s
       tells = ap (λ (x : Bool). cond x idle begun) (sym (t .running) ∙ f);
       fits = sym (t .running) ∙ f;
       foretold = tt;
-      tied = record { size = t .size; running = refl; run = refl; number = started-numbered (w .stream); noted = t .noted; holds = t .holds; fits = t .fits; held = t .held };
+      tied = record { size = t .size; running = refl; run = refl; number = started-numbered (w .stream); noted = t .noted; holds = t .holds; fits = t .fits; held = t .held; maps = t .maps };
     }
 
 ended-run : (a on : Bool) → not a ≡ on → (r q : Run) → r ≡ q → (d n : ℕ) → d ≡ n → cond a r (stoppedRun r d) ≡ cond on (stoppedRun q n) q
@@ -281,6 +292,7 @@ tied-ended w p n t h = record {
   holds = holds-empty n;
   fits = h;
   held = tt;
+  maps = t .maps;
 }
 
 follows-stop : (w : World) (p : Paper) → Tied w p → Sound p → Follows (next w stop) p stop (answer w stop)
@@ -288,28 +300,78 @@ unfolding stopOf
 follows-stop w p t s = record {
   event = ended (p .granted);
   tells = refl;
-  fits = s .few;
+  fits = (s .few, s .maps .spare, s .slots);
   foretold = tt;
   tied = subst (λ (n : ℕ). Tied (withStream w (stopped (w .stream) n)) (step p (ended (p .granted)))) (sym (t .holds .granted)) (tied-ended w p (p .granted) t (t .fits));
 }
 
 follows-request : (w : World) (p : Paper) (n : ℕ) → Tied w p → Sound p → Follows (next w (request n)) p (request n) (answer w (request n))
 unfolding requestBuffersOf
-follows-request w p n t s = go (streaming (w .stream) && not (eqb n 0))
+follows-request w p n t s = go (anyMapped (w .stream .maps)) refl (streaming (w .stream) && not (eqb n 0))
   where
     g : ℕ
     g = grantOf (w .stream .length) n (w .size)
 
-    r : Bool → Step
-    r a = cond a (refuses Streaming (w .stream))
-        (answers (Granted (grantOf (w .stream .length) n (w .size))) (stopped (w .stream) (grantOf (w .stream .length) n (w .size))))
+    r : Bool → Bool → Step
+    r a b = cond a (refuses StillMapped (w .stream)) (cond b (refuses Streaming (w .stream))
+        (answers (Granted (grantOf (w .stream .length) n (w .size))) (stopped (w .stream) (grantOf (w .stream .length) n (w .size)))))
 
     fit : g * slotSize (p .size) ≤ length (w .memory)
     fit = subst (λ (z : ℕ). g * slotSize z ≤ length (w .memory)) (t .size) (subst (λ (l : ℕ). g * slotSize (w .size) ≤ l) (t .noted) (grant-fits (w .stream .length) n (w .size)))
 
-    go : (a : Bool) → Follows (withStream w (r a .stream)) p (request n) (replied (r a .reply))
-    go true = nothing w p (request n) (replied (Refused Streaming)) t refl
-    go false = record { event = ended g; tells = refl; fits = grant-few (w .stream .length) n (w .size); foretold = tt; tied = tied-ended w p g t fit }
+    go : (a : Bool) → anyMapped (w .stream .maps) ≡ a → (b : Bool) → Follows (withStream w (r a b .stream)) p (request n) (replied (r a b .reply))
+    go true e b = nothing w p (request n) (replied (Refused StillMapped)) t refl
+    go false e true = nothing w p (request n) (replied (Refused Streaming)) t refl
+    go false e false = record {
+      event = ended g;
+      tells = refl;
+      fits = (
+        grant-few (w .stream .length) n (w .size),
+        λ k h. ap (λ (m : List ℕ). mapsOf m k) (sym (t .maps)) ∙ none-mapped (w .stream .maps) e k,
+        λ h. subst (λ (z : ℕ). 0 < slotSize z) (t .size) (grant-slot (w .stream .length) n (w .size) h),
+      );
+      foretold = tt;
+      tied = tied-ended w p g t fit;
+    }
+
+-- ---- a buffer is mapped or unmapped
+
+follows-change : (w : World) (p : Paper) (c : Change) (o l : ℕ) → Tied w p → Sound p → Follows (next w (change c o l)) p (change c o l) (answer w (change c o l))
+unfolding changeOf slotAt
+follows-change w p c o l t s = go (isSlot (min (w .stream .queues .granted) 32) (w .size) o l) refl
+  where
+    k : ℕ
+    k = bufferAt (w .size) o
+
+    r : Bool → Step
+    r b = cond b (refuses (whyNot c) (w .stream)) (answers Done (withMaps (w .stream) (moved c (w .stream .maps) (bufferAt (w .size) o))))
+
+    known : isSlot (min (w .stream .queues .granted) 32) (w .size) o l ≡ true → (b : Bool) → blocked c (mapsOf (w .stream .maps) (bufferAt (w .size) o)) ≡ b
+        → Follows (withStream w (r b .stream)) p (change c o l) (replied (r b .reply))
+    known e true f = nothing w p (change c o l) (replied (Refused (whyNot c))) t refl
+    known e false f = record {
+      event = changed c k;
+      tells = ap (λ (n : ℕ). changed c (bufferAt n o)) (sym (t .size));
+      fits = (omega (arith, t .holds .granted, slot-is (min (w .stream .queues .granted) 32) (w .size) o l e .3), ap (λ (m : List ℕ). blocked c (mapsOf m k)) (sym (t .maps)) ∙ f);
+      foretold = tt;
+      tied = record {
+        size = t .size;
+        running = t .running;
+        run = t .run;
+        number = t .number;
+        noted = t .noted;
+        holds = t .holds;
+        fits = t .fits;
+        held = t .held;
+        maps = ap (λ (m : List ℕ). moved c m k) (t .maps);
+      };
+    }
+
+    go : (a : Bool) → isSlot (min (w .stream .queues .granted) 32) (w .size) o l ≡ a
+        → Follows (withStream w (changedAt c (w .stream) (cond a (Buffer (bufferAt (w .size) o)) NoBuffer) .stream)) p (change c o l)
+        (replied (changedAt c (w .stream) (cond a (Buffer (bufferAt (w .size) o)) NoBuffer) .reply))
+    go true e = known e (blocked c (mapsOf (w .stream .maps) (bufferAt (w .size) o))) refl
+    go false e = nothing w p (change c o l) (replied (Refused NoSuchBuffer)) t refl
 
 -- ---- another frame size
 
@@ -341,6 +403,7 @@ follows-resize w p n t s = go (eqb (w .stream .queues .granted) 0) refl
             holds = t .holds;
             fits = subst (λ (g : ℕ). g * slotSize n ≤ length (w .memory)) (sym z) (omega arith);
             held = subst (All (Held n (w .memory))) (sym o) tt;
+            maps = t .maps;
           };
         }
 
@@ -388,12 +451,12 @@ abbrev storedStream : World → List ℕ → Time → Stream
 storedStream w b t =
     onQueues (λ q. filledOldest q (w .stream .number) (length b) t) (counted (w .stream))
 
-tied-stored : (w : World) (size granted : ℕ) (on : Bool) (r : Run) (k : ℕ) (i : List ℕ) (o : List Pair) (b : List ℕ) (t : Time)
-    → Tied w (paper size granted on r (k ∷ i) o) → Sound (paper size granted on r (k ∷ i) o) → length b ≤ size
+tied-stored : (w : World) (size granted : ℕ) (on : Bool) (r : Run) (v : List ℕ) (k : ℕ) (i : List ℕ) (o : List Pair) (b : List ℕ) (t : Time)
+    → Tied w (paper size granted on r v (k ∷ i) o) → Sound (paper size granted on r v (k ∷ i) o) → length b ≤ size
     → Tied (record { stream = storedStream w b t; size = w .size; memory = sets (w .memory) (slotOffset k size) b })
-    (step (paper size granted on r (k ∷ i) o) (whole b t))
-tied-stored w size granted on r k i o b t x s l =
-    let p : Paper = paper size granted on r (k ∷ i) o in
+    (step (paper size granted on r v (k ∷ i) o) (whole b t))
+tied-stored w size granted on r v k i o b t x s l =
+    let p : Paper = paper size granted on r v (k ∷ i) o in
     let m : List ℕ = w .memory in
     let at : ℕ = slotOffset k size in
     let new : Pair = record { index = k; frame = frameOf p b t } in
@@ -415,6 +478,7 @@ tied-stored w size granted on r k i o b t x s l =
       held = all-snoc (Held size (sets m at b)) o new
           (all-map (λ y. Held size m y × (y .index ≢ k)) (Held size (sets m at b)) (held-other size k m b l) o (all-both (Held size m) (λ y. y .index ≢ k) o (x .held) notk))
           (l, part-stored b m at (omega (arith, slot-least size)));
+      maps = x .maps;
     }
 
 -- an accepted arrival is whole or damaged, as the paper tells it
@@ -427,18 +491,18 @@ abbrev Comes : World → Paper → List ℕ → Time → Bool → List ℕ → A
 Comes w p b t fl lends r =
     Follows (record { stream = r .stream; size = w .size; memory = writtenBy (r .arrival) (w .size) (w .memory) b }) p (arrival b t fl lends) (arrived (r .arrival))
 
-comes-placed : (w : World) (size granted : ℕ) (on : Bool) (r : Run) (i : List ℕ) (o : List Pair) (b : List ℕ) (t : Time) (fl : Bool) (lends : List ℕ)
-    → Tied w (paper size granted on r i o) → Sound (paper size granted on r i o) → Fits (paper size granted on r i o) (whole b t)
-    → cond on (arrivedWhole (paper size granted on r i o) b t fl) idle ≡ whole b t
-    → Comes w (paper size granted on r i o) b t fl lends (placedOf (counted (w .stream)) (w .stream .number) (length b) t)
+comes-placed : (w : World) (size granted : ℕ) (on : Bool) (r : Run) (v i : List ℕ) (o : List Pair) (b : List ℕ) (t : Time) (fl : Bool) (lends : List ℕ)
+    → Tied w (paper size granted on r v i o) → Sound (paper size granted on r v i o) → Fits (paper size granted on r v i o) (whole b t)
+    → cond on (arrivedWhole (paper size granted on r v i o) b t fl) idle ≡ whole b t
+    → Comes w (paper size granted on r v i o) b t fl lends (placedOf (counted (w .stream)) (w .stream .number) (length b) t)
 unfolding placedOf
-comes-placed w size granted on r i o b t fl lends x s f e =
-    subst (λ (l : List ℕ). Comes w (paper size granted on r i o) b t fl lends (placedIn (nextOf l) (counted (w .stream)) (w .stream .number) (length b) t))
+comes-placed w size granted on r v i o b t fl lends x s f e =
+    subst (λ (l : List ℕ). Comes w (paper size granted on r v i o) b t fl lends (placedIn (nextOf l) (counted (w .stream)) (w .stream .number) (length b) t))
     (sym (x .holds .ins)) (go i x s f e)
   where
-    go : (i : List ℕ) → Tied w (paper size granted on r i o) → Sound (paper size granted on r i o) → Fits (paper size granted on r i o) (whole b t)
-        → cond on (arrivedWhole (paper size granted on r i o) b t fl) idle ≡ whole b t
-        → Comes w (paper size granted on r i o) b t fl lends (placedIn (nextOf i) (counted (w .stream)) (w .stream .number) (length b) t)
+    go : (i : List ℕ) → Tied w (paper size granted on r v i o) → Sound (paper size granted on r v i o) → Fits (paper size granted on r v i o) (whole b t)
+        → cond on (arrivedWhole (paper size granted on r v i o) b t fl) idle ≡ whole b t
+        → Comes w (paper size granted on r v i o) b t fl lends (placedIn (nextOf i) (counted (w .stream)) (w .stream .number) (length b) t)
     go [] x s f e = record {
       event = whole b t;
       tells = e;
@@ -453,6 +517,7 @@ comes-placed w size granted on r i o b t fl lends x s f e =
         holds = x .holds;
         fits = x .fits;
         held = x .held;
+        maps = x .maps;
       };
     }
     go (k ∷ i) x s f e = record {
@@ -460,8 +525,8 @@ comes-placed w size granted on r i o b t fl lends x s f e =
       tells = e;
       fits = f;
       foretold = ap (λ (n : ℕ). arrived (arrivals.Stored k n)) (number-is (w .stream) r (x .number) (x .run));
-      tied = subst (λ (n : ℕ). Tied (record { stream = storedStream w b t; size = w .size; memory = sets (w .memory) (slotOffset k n) b }) (step (paper size granted on r (k ∷ i) o) (whole b t)))
-          (sym (x .size)) (tied-stored w size granted on r k i o b t x s (f .2));
+      tied = subst (λ (n : ℕ). Tied (record { stream = storedStream w b t; size = w .size; memory = sets (w .memory) (slotOffset k n) b }) (step (paper size granted on r v (k ∷ i) o) (whole b t)))
+          (sym (x .size)) (tied-stored w size granted on r v k i o b t x s (f .2));
     }
 
 comes-accepted : (w : World) (p : Paper) (b : List ℕ) (t : Time) (fl : Bool) (lends : List ℕ) → Tied w p → Sound p → p .running ≡ true → p .run .accepted < runLimit
@@ -479,7 +544,7 @@ comes-accepted w p b t fl lends x s on l = go (fl && leb (length b) (w .size)) r
     go : (v : Bool) → (fl && leb (length b) (w .size)) ≡ v → Comes w p b t fl lends (z v)
     go true e =
         let short : length b ≤ p .size = omega (arith, x .size, leb-true (length b) (w .size) (and-true fl (leb (length b) (w .size)) e .1)) in
-        comes-placed w (p .size) (p .granted) (p .running) (p .run) (p .incoming) (p .outgoing) b t fl lends x s (on, l, short) (tell true e)
+        comes-placed w (p .size) (p .granted) (p .running) (p .run) (p .maps) (p .incoming) (p .outgoing) b t fl lends x s (on, l, short) (tell true e)
     go false e = record {
       event = damaged;
       tells = tell false e;
@@ -494,6 +559,7 @@ comes-accepted w p b t fl lends x s on l = go (fl && leb (length b) (w .size)) r
         holds = x .holds;
         fits = x .fits;
         held = x .held;
+        maps = x .maps;
       };
     }
 
@@ -544,5 +610,6 @@ follows w p dequeue t s = follows-dequeue w p t s
 follows w p start t s = follows-start w p t s
 follows w p stop t s = follows-stop w p t s
 follows w p (resize n) t s = follows-resize w p n t s
+follows w p (change c o l) t s = follows-change w p c o l t s
 follows w p (arrival b u fl lends) t s = follows-arrival w p b u fl lends t s
 follows w p other t s = nothing w p other (replied Done) t refl

@@ -12,13 +12,15 @@ use Rattle.stream_words.specs.Stream.{Stream}
 use Rattle.stream_run.specs.Stream.{freshStream}
 use Rattle.stream_run.specs.Switches.{requestBuffersOf, startOf, stopOf}
 use Rattle.stream_queue.specs.Queueing.{enqueueOf, dequeueOf}
+use Rattle.stream_maps.specs.declared.Change.{Change}
+use Rattle.stream_mmap.specs.Mapping.{changeOf}
 use Rattle.stream_arrival.specs.declared.Arrival.{Arrival}
 use Rattle.stream_arrival.specs.Arrivals.{Arrived}
 use Rattle.stream_arrival.specs.Arrivals.{arrivalOf, writtenBy}
 
--- A call. A client asks for so many buffers, hands one in, takes one, starts, stops, or asks for another frame size; or a frame
--- arrives: its bytes, its time, whether it is whole by the caller's rule, and what is lent if not the stream's memory. Any other
--- call leaves the stream alone.
+-- A call. A client asks for so many buffers, hands one in, takes one, starts, stops, or asks for another frame size; maps a buffer or unmaps it,
+-- by offset and length; or a frame arrives: its bytes, its time, whether it is whole by the caller's rule, and what is lent if not the
+-- stream's memory. Any other call leaves the stream alone.
 pub data Call : Type 0 where
   request : ℕ → Call
   enqueue : ℕ → Call
@@ -26,6 +28,7 @@ pub data Call : Type 0 where
   start : Call
   stop : Call
   resize : ℕ → Call
+  change : Change → ℕ → ℕ → Call
   arrival : List ℕ → Time → Bool → List ℕ → Call
   other : Call
 
@@ -64,6 +67,7 @@ answer w dequeue = replied (dequeueOf (w .stream) .reply)
 answer w start = replied (startOf (w .stream) .reply)
 answer w stop = replied (stopOf (w .stream) .reply)
 answer w (resize n) = replied (sizeReply (w .stream .queues .granted))
+answer w (change c o l) = replied (changeOf c (w .stream) (w .size) o l .reply)
 answer w (arrival b t whole lends) = arrived (arrives w b t whole lends .arrival)
 answer w other = replied Done
 
@@ -79,6 +83,7 @@ next w dequeue = withStream w (dequeueOf (w .stream) .stream)
 next w start = withStream w (startOf (w .stream) .stream)
 next w stop = withStream w (stopOf (w .stream) .stream)
 next w (resize n) = record { stream = w .stream; size = cond (eqb (w .stream .queues .granted) 0) n (w .size); memory = w .memory }
+next w (change c o l) = withStream w (changeOf c (w .stream) (w .size) o l .stream)
 next w (arrival b t whole lends) =
     record {
       stream = arrives w b t whole lends .stream;

@@ -8,18 +8,20 @@ use lib.ListN.{length, take, drop}
 use Rattle.stream_words.specs.declared.Time.{Time}
 use Rattle.stream_words.specs.declared.Filled.{Filled}
 use Rattle.stream_slots.specs.Slot.{slotOffset}
-use Rattle.stream_run.specs.declared.Reply.the-variants.{Done, Returned}
+use Rattle.stream_run.specs.declared.Reply.the-variants.{Done, Granted, Returned}
 use Rattle.stream_run.specs.Stream.{oneMore, reduced, Numbered}
 use Rattle.stream_words.specs.Moves.{standingOf}
 use Rattle.stream_arrival.specs.declared.Arrival.the-variants.{Stored}
 use Rattle.stream_arrival.specs.Arrivals.{runLimit}
-use Rattle.stream_status.specs.Buffer.{flagsFor}
+use Rattle.stream_maps.specs.declared.Change.the-variants.{Map, Unmap}
+use Rattle.stream_maps.specs.Maps.{mostMaps, mapsOf, isMapped}
+use Rattle.stream_status.specs.Buffer.{flagsOf}
 use Rattle.stream_verdict.specs.Film.{verdictOf}
 use Rattle.stream_verdict.specs.declared.Verdict.the-variants.{Running, Blank, Gaps, Complete}
 use Rattle.stream_history.specs.Calls.{Call, World, opened, answer, next, after}
-use Rattle.stream_history.specs.Calls.Call.{enqueue, dequeue, arrival}
+use Rattle.stream_history.specs.Calls.Call.{request, enqueue, dequeue, arrival}
 use Rattle.stream_history.specs.Calls.Answer.{replied, arrived}
-use Rattle.stream_history.specs.Paper.{Paper, Event, blank, indexOf, told, noted, events, wholes, dequeues, Calm, handedOver, numbersBelow}
+use Rattle.stream_history.specs.Paper.{Paper, Event, blank, indexOf, told, noted, events, changes, wholes, dequeues, Calm, handedOver, numbersBelow}
 use Rattle.stream_history.specs.Paper.Event.{whole}
 
 -- the paper after a list of calls from an opening
@@ -53,12 +55,27 @@ timesIn p k = times k (p .incoming)
 abbrev pub timesOut : Paper → ℕ → ℕ
 timesOut p k = times k (map indexOf (p .outgoing))
 
--- at most once in both together; never, if there is no such buffer; and the flags that the stream tells say which
+-- 1 while buffer k is mapped
+abbrev pub mappedOn : Paper → ℕ → ℕ
+mappedOn p k = cond (isMapped (p .maps) k) 1 0
+
+-- at most once in both together; never, if there is no such buffer; and the flags that the stream tells say which, and whether it is mapped
 abbrev pub OnePlace : Type 0
 OnePlace = (size : ℕ) (m : List ℕ) (cs : List Call) (k : ℕ)
     → (timesIn (paperAfter size m cs) k + timesOut (paperAfter size m cs) k ≤ 1)
     × (paperAfter size m cs .granted ≤ k → timesIn (paperAfter size m cs) k + timesOut (paperAfter size m cs) k ≡ 0)
-    × (flagsFor (standingOf (worldAfter size m cs .stream .queues) k) ≡ 2 * timesIn (paperAfter size m cs) k + 4 * timesOut (paperAfter size m cs) k)
+    × (flagsOf (isMapped (worldAfter size m cs .stream .maps) k) (standingOf (worldAfter size m cs .stream .queues) k)
+    ≡ mappedOn (paperAfter size m cs) k + 2 * timesIn (paperAfter size m cs) k + 4 * timesOut (paperAfter size m cs) k)
+
+-- the map count of buffer k is that of the maps that were accepted less the unmaps, it is at most 255, and 0 if there is no such buffer; the stream
+-- keeps those counts, and when it grants buffers all of them are 0
+abbrev pub Mapped : Type 0
+Mapped = (size : ℕ) (m : List ℕ) (cs : List Call) (k : ℕ)
+    → (mapsOf (paperAfter size m cs .maps) k + changes Unmap k (events (opened size m) (blank size) cs) ≡ changes Map k (events (opened size m) (blank size) cs))
+    × (mapsOf (paperAfter size m cs .maps) k ≤ mostMaps)
+    × (paperAfter size m cs .granted ≤ k → mapsOf (paperAfter size m cs .maps) k ≡ 0)
+    × (worldAfter size m cs .stream .maps ≡ paperAfter size m cs .maps)
+    × ((n g : ℕ) → answer (worldAfter size m cs) (request n) ≡ replied (Granted g) → (mapsOf (paperAfter size m cs .maps) k ≡ 0) × (mapsOf (next (worldAfter size m cs) (request n) .stream .maps) k ≡ 0))
 
 -- ---- b. and c.: calls `before`, then buffer k handed in and accepted, then calls `mid` in which no stop and no buffer request is accepted
 

@@ -1,18 +1,22 @@
--- The two queues on paper, and what became of the arrivals of the last run: told from the calls and their answers alone.
+-- The two queues on paper, the maps, and what became of the arrivals of the last run: told from the calls and their answers alone.
 use Prim.Native.Nat.{ℕ, zero, suc, _+_}
 use mathlib.Core.Bool.{Bool, true, false, cond, _&&_}
 use mathlib.Core.List.{List, [], _∷_, _++_, map}
-use lib.Dec.{leb}
+use lib.Dec.{eqb, leb}
 use lib.ListN.{length}
 use Rattle.stream_words.specs.declared.Time.{Time}
 use Rattle.stream_run.specs.declared.Reply.{Reply}
 use Rattle.stream_words.specs.Stream.{Run}
 use Rattle.stream_run.specs.Stream.{freshRun, stoppedRun}
 use Rattle.stream_run.specs.declared.Reply.the-variants as replies
+use Rattle.stream_slots.specs.Slot.{bufferAt}
+use Rattle.stream_maps.specs.declared.Change.{Change}
+use Rattle.stream_maps.specs.declared.Change.the-variants.{Map, Unmap}
+use Rattle.stream_maps.specs.Maps.{noMaps, moved}
 use Rattle.stream_arrival.specs.declared.Arrival.{Arrival}
 use Rattle.stream_arrival.specs.declared.Arrival.the-variants as arrivals
 use Rattle.stream_history.specs.Calls.{Call, Answer, World, answer, next}
-use Rattle.stream_history.specs.Calls.Call.{request, enqueue, dequeue, start, stop, resize, arrival, other}
+use Rattle.stream_history.specs.Calls.Call.{request, enqueue, dequeue, start, stop, resize, change, arrival, other}
 use Rattle.stream_history.specs.Calls.Answer.{replied, arrived}
 
 -- An arrival: its place in the run, which is how many were accepted before it, its time and its bytes.
@@ -30,7 +34,8 @@ pub record Pair : Type 0 where
 abbrev pub indexOf : Pair → ℕ
 indexOf x = x .index
 
--- The frame size that was last accepted, how many buffers there are, whether a run is on, the last run's counts, the two queues.
+-- The frame size that was last accepted, how many buffers there are, whether a run is on, the last run's counts, the two queues, and how
+-- often each buffer is mapped: accepted maps less accepted unmaps.
 pub record Paper : Type 0 where
   pub size : ℕ
   pub granted : ℕ
@@ -38,10 +43,11 @@ pub record Paper : Type 0 where
   pub run : Run
   pub incoming : List ℕ
   pub outgoing : List Pair
+  pub maps : List ℕ
 
--- at opening: empty queues, no buffers, no run
+-- at opening: empty queues, no buffers, no run, no maps
 abbrev pub blank : ℕ → Paper
-blank size = record { size = size; granted = 0; running = false; run = freshRun 0; incoming = []; outgoing = [] }
+blank size = record { size = size; granted = 0; running = false; run = freshRun 0; incoming = []; outgoing = []; maps = noMaps }
 
 -- What an accepted call means on paper.
 pub data Event : Type 0 where
@@ -52,6 +58,7 @@ pub data Event : Type 0 where
   begun : Event
   ended : ℕ → Event
   sized : ℕ → Event
+  changed : Change → ℕ → Event
   idle : Event
 
 -- ---- which event a call and its answer tell
@@ -88,6 +95,7 @@ repliedTold p dequeue r = handed
 repliedTold p start r = cond (p .running) idle begun
 repliedTold p stop r = ended (p .granted)
 repliedTold p (resize n) r = sized n
+repliedTold p (change c o l) r = changed c (bufferAt (p .size) o)
 repliedTold p (arrival b t w lends) r = idle
 repliedTold p other r = idle
 
@@ -99,6 +107,7 @@ arrivedTold p dequeue = idle
 arrivedTold p start = idle
 arrivedTold p stop = idle
 arrivedTold p (resize n) = idle
+arrivedTold p (change c o l) = idle
 arrivedTold p (arrival b t w lends) = cond (p .running) (arrivedWhole p b t w) idle
 arrivedTold p other = idle
 
@@ -140,18 +149,22 @@ count p handed =
 count p begun = freshRun 1
 count p (ended n) = cond (p .running) (stoppedRun (p .run) (length (p .outgoing))) (p .run)
 count p (sized n) = p .run
+count p (changed c k) = p .run
 count p idle = p .run
 
 -- the paper after an event
 abbrev pub step : Paper → Event → Paper
-step p (put k) = record { size = p .size; granted = p .granted; running = p .running; run = count p (put k); incoming = p .incoming ++ (k ∷ []); outgoing = p .outgoing }
+step p (put k) = record { size = p .size; granted = p .granted; running = p .running; run = count p (put k); incoming = p .incoming ++ (k ∷ []); outgoing = p .outgoing; maps = p .maps }
 step p (whole b t) =
-    record { size = p .size; granted = p .granted; running = p .running; run = count p (whole b t); incoming = rest (p .incoming); outgoing = filled (p .incoming) (frameOf p b t) (p .outgoing) }
-step p damaged = record { size = p .size; granted = p .granted; running = p .running; run = count p damaged; incoming = p .incoming; outgoing = p .outgoing }
-step p handed = record { size = p .size; granted = p .granted; running = p .running; run = count p handed; incoming = p .incoming; outgoing = rest (p .outgoing) }
-step p begun = record { size = p .size; granted = p .granted; running = true; run = count p begun; incoming = p .incoming; outgoing = p .outgoing }
-step p (ended n) = record { size = p .size; granted = n; running = false; run = count p (ended n); incoming = []; outgoing = [] }
-step p (sized n) = record { size = n; granted = p .granted; running = p .running; run = count p (sized n); incoming = p .incoming; outgoing = p .outgoing }
+    record { size = p .size; granted = p .granted; running = p .running; run = count p (whole b t); incoming = rest (p .incoming); outgoing = filled (p .incoming) (frameOf p b t) (p .outgoing); maps = p .maps }
+step p damaged = record { size = p .size; granted = p .granted; running = p .running; run = count p damaged; incoming = p .incoming; outgoing = p .outgoing; maps = p .maps }
+step p handed = record { size = p .size; granted = p .granted; running = p .running; run = count p handed; incoming = p .incoming; outgoing = rest (p .outgoing); maps = p .maps }
+step p begun = record { size = p .size; granted = p .granted; running = true; run = count p begun; incoming = p .incoming; outgoing = p .outgoing; maps = p .maps }
+step p (ended n) = record { size = p .size; granted = n; running = false; run = count p (ended n); incoming = []; outgoing = []; maps = p .maps }
+step p (sized n) = record { size = n; granted = p .granted; running = p .running; run = count p (sized n); incoming = p .incoming; outgoing = p .outgoing; maps = p .maps }
+-- a map, or an unmap: nothing is told to the queues
+step p (changed c k) =
+    record { size = p .size; granted = p .granted; running = p .running; run = count p (changed c k); incoming = p .incoming; outgoing = p .outgoing; maps = moved c (p .maps) k }
 step p idle = p
 
 -- the paper after a list of events
@@ -177,6 +190,7 @@ given p l handed = l ++ map placeInRun (first (p .outgoing))
 given p l begun = []
 given p l (ended n) = l
 given p l (sized n) = l
+given p l (changed c k) = l
 given p l idle = l
 
 -- and after a list of events
@@ -210,6 +224,7 @@ wholes (handed ∷ es) = wholes es
 wholes (begun ∷ es) = wholes es
 wholes (ended n ∷ es) = wholes es
 wholes (sized n ∷ es) = wholes es
+wholes (changed c k ∷ es) = wholes es
 wholes (idle ∷ es) = wholes es
 
 -- how many successful dequeues
@@ -222,7 +237,27 @@ dequeues (handed ∷ es) = suc (dequeues es)
 dequeues (begun ∷ es) = dequeues es
 dequeues (ended n ∷ es) = dequeues es
 dequeues (sized n ∷ es) = dequeues es
+dequeues (changed c k ∷ es) = dequeues es
 dequeues (idle ∷ es) = dequeues es
+
+-- how many maps of buffer k, and how many unmaps: each is a change of that sort
+abbrev pub sameSort : Change → Change → Bool
+sameSort Map Map = true
+sameSort Unmap Unmap = true
+sameSort Map Unmap = false
+sameSort Unmap Map = false
+
+abbrev pub changes : Change → ℕ → List Event → ℕ
+changes c k [] = 0
+changes c k (put j ∷ es) = changes c k es
+changes c k (whole b t ∷ es) = changes c k es
+changes c k (damaged ∷ es) = changes c k es
+changes c k (handed ∷ es) = changes c k es
+changes c k (begun ∷ es) = changes c k es
+changes c k (ended n ∷ es) = changes c k es
+changes c k (sized n ∷ es) = changes c k es
+changes c k (changed d j ∷ es) = cond (sameSort c d && eqb j k) 1 0 + changes c k es
+changes c k (idle ∷ es) = changes c k es
 
 -- no stop and no buffer request is accepted
 abbrev pub Calm : List Event → Type 0
@@ -234,4 +269,5 @@ Calm (handed ∷ es) = Calm es
 Calm (begun ∷ es) = Calm es
 Calm (ended n ∷ es) = ⊥
 Calm (sized n ∷ es) = Calm es
+Calm (changed c k ∷ es) = Calm es
 Calm (idle ∷ es) = Calm es

@@ -2,11 +2,18 @@
 // and its contract is the claim.
 ghost use mathlib.Core.Path.{_≡_};
 ghost use mathlib.Core.Bool.{true};
-ghost use Rattle.stream_history.specs.Claims.{OnePlace, Stores, Returns, AddsUp, Numbers, Verdicts};
+ghost use Rattle.stream_history.specs.Claims.{OnePlace, Mapped, Stores, Returns, AddsUp, Numbers, Verdicts};
 
 // Every buffer is dequeued, incoming or outgoing, and only one of these.
 pub fn one_place() -> bool
     ensures { λ r. ⌜ (r ≡ true) × OnePlace ⌝ }
+{
+    true
+}
+
+// A map count is that of accepted maps less accepted unmaps, and 0 when buffers are granted.
+pub fn maps() -> bool
+    ensures { λ r. ⌜ (r ≡ true) × Mapped ⌝ }
 {
     true
 }

@@ -21,7 +21,7 @@ enqueueOf s k =
 -- the oldest frame held is handed over
 abbrev pub handedOver : Oldest → Stream → Step
 handedOver Empty s = refuses NothingOutgoing s
-handedOver (Frame f) s = answers (Returned f) (record { length = s .length; streaming = s .streaming; run = handedRun (s .run); number = s .number; queues = popped (s .queues) })
+handedOver (Frame f) s = answers (Returned f) (record { length = s .length; streaming = s .streaming; run = handedRun (s .run); number = s .number; queues = popped (s .queues); maps = s .maps })
 
 -- DQBUF: with buffers, in a run, and a frame held
 unfoldable pub dequeueOf : Stream → Step

@@ -3,9 +3,10 @@ use Prim.Native.Nat.{ℕ, _/_, min}
 use mathlib.Core.Bool.{cond, not, _&&_}
 use lib.Dec.{eqb}
 use Rattle.ioctl_table.specs.declared.refusals.Refusal.{Refusal}
-use Rattle.ioctl_table.specs.declared.refusals.Refusal.the-variants.{NoBuffers, Streaming}
+use Rattle.ioctl_table.specs.declared.refusals.Refusal.the-variants.{NoBuffers, StillMapped, Streaming}
 use Rattle.stream_slots.specs.Slot.{slotSize}
 use Rattle.stream_words.specs.Stream.{Stream}
+use Rattle.stream_maps.specs.Maps.{anyMapped}
 use Rattle.stream_run.specs.declared.Reply.{Reply}
 use Rattle.stream_run.specs.declared.Reply.the-variants.{Done, Granted, Refused}
 use Rattle.stream_run.specs.Stream.{streaming, started, stopped}
@@ -26,11 +27,12 @@ refuses why s = answers (Refused why) s
 unfoldable pub grantOf : ℕ → ℕ → ℕ → ℕ
 grantOf length count size = cond (eqb (slotSize size) 0) 0 (min count (min 32 (length / slotSize size)))
 
--- REQBUFS: while streaming only a count of 0, which first stops the run; then all are dequeued
+-- REQBUFS: while no buffer is mapped; while streaming only a count of 0, which first stops the run; then all are dequeued
 unfoldable pub requestBuffersOf : Stream → ℕ → ℕ → Step
 requestBuffersOf s count size =
-    cond (streaming s && not (eqb count 0)) (refuses Streaming s)
-    (answers (Granted (grantOf (s .length) count size)) (stopped s (grantOf (s .length) count size)))
+    cond (anyMapped (s .maps)) (refuses StillMapped s)
+    (cond (streaming s && not (eqb count 0)) (refuses Streaming s)
+    (answers (Granted (grantOf (s .length) count size)) (stopped s (grantOf (s .length) count size))))
 
 -- STREAMON: with buffers; while streaming it changes nothing
 unfoldable pub startOf : Stream → Step
@@ -38,6 +40,6 @@ startOf s =
     cond (eqb (s .queues .granted) 0) (refuses NoBuffers s)
     (answers Done (cond (streaming s) s (started s)))
 
--- STREAMOFF: ends a run, empties both queues, keeps the buffers
+-- STREAMOFF: ends a run, empties both queues, keeps the buffers and their maps
 unfoldable pub stopOf : Stream → Step
 stopOf s = answers Done (stopped s (s .queues .granted))

@@ -28,10 +28,14 @@ fn grant(length: u64, count: u32, size: u32) -> u32
     least(count as u64, least(32, length / slot)) as u32
 }
 
-// Buffers are asked for. All there were go first, and so does a run; while one is on, only a count of 0 is taken.
+// Buffers are asked for. All there were go first, and so does a run; while one is on, only a count of 0 is taken. While a buffer is mapped
+// nothing is: its memory is in a client's hands.
 pub fn request_buffers(s: &mut Words, count: u32, size: u32) -> Reply
     ensures { λ r. ⌜ answers r (streamIn (now (s .exit))) ≡ requestBuffersOf (streamIn (now (s .entry))) count size ⌝ }
 {
+    if stream_maps::any_mapped(s) {
+        return Reply::Refused(Refusal::StillMapped);
+    }
     if (s[STREAMING] != 0) & (count != 0) {
         return Reply::Refused(Refusal::Streaming);
     }

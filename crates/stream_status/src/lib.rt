@@ -1,7 +1,8 @@
 // The status of a buffer, as QUERYBUF, QBUF and DQBUF tell it.
 ghost use mathlib.Core.Path.{_≡_};
+ghost use Prim.Native.Nat.{_≤_};
 ghost use Rattle.stream_words.specs.Words.{streamIn};
-ghost use Rattle.stream_status.specs.Buffer.{flagsFor, frameFor, describedOf, statusOf, queuedOf, queryOf, returnedOf};
+ghost use Rattle.stream_status.specs.Buffer.{flagsFor, flagsOf, frameFor, describedOf, statusOf, queuedOf, queryOf, returnedOf};
 use ioctl_table::Refusal;
 use stream_words::Filled;
 use stream_words::Standing;
@@ -26,15 +27,23 @@ pub enum Queried {
     Refused(Refusal),
 }
 
-// Its flags.
-fn flags(st: Standing) -> u32
-    ensures { λ r. ⌜ r ≡ flagsFor st ⌝ }
+// The flags of the queue that it is in.
+fn place_flags(st: Standing) -> u32
+    ensures { λ r. ⌜ (r ≡ flagsFor st) × (r ≤ 4) ⌝ }
 {
     match st {
         Standing::Dequeued => 0,
         Standing::Incoming => 2,
         Standing::Outgoing(_) => 4,
     }
+}
+
+// Its flags: one more while it is mapped.
+fn flags(mapped: bool, st: Standing) -> u32
+    ensures { λ r. ⌜ r ≡ flagsOf mapped st ⌝ }
+{
+    let place = place_flags(st);
+    if mapped { 1 + place } else { place }
 }
 
 // The frame in it.
@@ -71,18 +80,19 @@ fn of_buffer(s: &Words, k: u32, size: u32) -> Status
     ensures { λ r. ⌜ r ≡ statusOf (streamIn (now (s .entry))) k size ⌝ }
 {
     let st = stream_search::standing_of(s, k);
-    described(k, flags(st), held(st), size)
+    described(k, flags(stream_maps::is_mapped(s, k), st), held(st), size)
 }
 
 // The status of a buffer that was just taken in, into a line that had room or not. It need not be looked for.
-pub fn queued(k: u32, room: bool, size: u32) -> Status
-    ensures { λ r. ⌜ r ≡ queuedOf k room size ⌝ }
+pub fn queued(s: &Words, k: u32, room: bool, size: u32) -> Status
+    ensures { λ r. ⌜ r ≡ queuedOf (streamIn (now (s .entry)) .maps) k room size ⌝ }
 {
     let none = stream_line::no_frame();
+    let mapped = stream_maps::is_mapped(s, k);
     if room {
-        return described(k, 2, none, size);
+        return described(k, flags(mapped, Standing::Incoming), none, size);
     }
-    described(k, 0, none, size)
+    described(k, flags(mapped, Standing::Dequeued), none, size)
 }
 
 // The status of buffer k, if there is one.
@@ -97,8 +107,9 @@ pub fn query(s: &Words, k: u32, size: u32) -> Queried
 }
 
 // The status of a buffer that is handed over with this frame.
-pub fn returned(f: Filled, size: u32) -> Status
-    ensures { λ r. ⌜ r ≡ returnedOf f size ⌝ }
+pub fn returned(s: &Words, f: Filled, size: u32) -> Status
+    ensures { λ r. ⌜ r ≡ returnedOf (streamIn (now (s .entry)) .maps) f size ⌝ }
 {
-    described(f.index, 0, f, size)
+    let mapped = stream_maps::is_mapped(s, f.index);
+    described(f.index, flags(mapped, Standing::Dequeued), f, size)
 }

@@ -78,3 +78,4 @@ module _ (w : List ℕ) (long : length w ≡ 208) where
       (stores-here [] w₄ 10 (d + 1) (simp length-set (omega arith)) tt)
       (λ q h i. stores-other l w q (λ e. omega arith, (λ e. omega arith, (λ e. omega arith, (λ e. omega arith, (i, tt))))))
       (λ q h i. stores-other l w q (λ e. i (omega arith), (λ e. i (omega arith), (λ e. i (omega arith), (λ e. i (omega arith), (λ e. omega arith, tt))))))
+      (λ q h. stores-other l w q (λ e. omega arith, (λ e. omega arith, (λ e. omega arith, (λ e. omega arith, (λ e. omega arith, tt))))))

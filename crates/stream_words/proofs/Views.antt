@@ -32,6 +32,7 @@ empty-view v w g v8 v10 v11 other =
     let d : holdingIn v ≡ 0 = omega arith in
     let n : linedIn v - holdingIn v ≡ 0 = omega arith in
     run-kept v w _ (λ j h. other j (λ e. omega arith) (λ e. omega arith) (λ e. omega arith)) (other 12 (λ e. omega arith) (λ e. omega arith) (λ e. omega arith))
+    (λ j h. other j (λ e. omega arith) (λ e. omega arith) (λ e. omega arith))
     (queues-are (queuesIn v) g [] [] v8 (rw n (tab-none _)) (rw d (tab-none _)))
 
 -- there is room
@@ -87,6 +88,7 @@ module _ (v w : List ℕ) (k n d p : ℕ) (hn : n ≡ linedIn w) (room : n < 32)
   pub push-view : streamIn v ≡ withQueues (streamIn w) (pushed (queuesIn w) k)
   push-view =
       line-changed v w _ _ (λ j h. other j (λ e. omega arith) (λ e. omega arith) (λ e. omega arith)) (other 12 (λ e. omega arith) (λ e. omega arith) (λ e. omega arith))
+      (λ j h. other j (λ e. omega arith) (λ e. omega arith) (λ e. omega arith))
       push-incoming push-outgoing
       ∙ ap (withQueues (streamIn w)) (sym (pushed-is (queuesIn w) k (omega (arith, line-length w))))
 
@@ -165,6 +167,7 @@ module _ (v w : List ℕ) (n d : ℕ) (hn : n ≡ linedIn w) (hd : d ≡ holding
   unfolding popped
   pop-view =
       line-changed v w _ _ (λ j h. other j (λ e. omega arith) (λ e. omega arith) (λ e. omega arith)) (other 12 (λ e. omega arith) (λ e. omega arith) (λ e. omega arith))
+      (λ j h. other j (λ e. omega arith) (λ e. omega arith) (λ e. omega arith))
       pop-incoming pop-outgoing
 
 one-on : (d i : ℕ) → d + 1 + i ≡ d + suc i
@@ -190,7 +193,8 @@ time-back t x y h e k f = rw (bits-back (t .seconds) x h e, bits-back (t .micros
 module _ (v w : List ℕ) (d p a b : ℕ) (t : Time) (hd : d ≡ holdingIn w) (some : d < linedIn w) (hp : p ≡ placeIn w d)
     (va : low (getD v (48 + p) 0) ≡ a) (vb : low (getD v (80 + p) 0) ≡ b) (vt : timeOf (low (getD v (112 + p) 0)) (low (getD v (144 + p) 0)) ≡ t) (v10 : getD v 10 0 ≡ d + 1)
     (under : (q : ℕ) → q < 48 → (q ≡ 10 → ⊥) → getD v q 0 ≡ getD w q 0)
-    (apart : (q : ℕ) → 16 ≤ q → ((q + 16) % 32 ≡ p → ⊥) → getD v q 0 ≡ getD w q 0) where
+    (apart : (q : ℕ) → 16 ≤ q → ((q + 16) % 32 ≡ p → ⊥) → getD v q 0 ≡ getD w q 0)
+    (behind : (q : ℕ) → 176 ≤ q → getD v q 0 ≡ getD w q 0) where
   fill-lined : linedIn v ≡ linedIn w
   fill-lined = rw (under 11 (omega arith) (λ e. omega arith))
 
@@ -231,5 +235,5 @@ module _ (v w : List ℕ) (d p a b : ℕ) (t : Time) (hd : d ≡ holdingIn w) (s
 
   pub fill-view : streamIn v ≡ withQueues (streamIn w) (filledOldest (queuesIn w) a b t)
   fill-view =
-      line-changed v w _ _ (λ j h. under j (omega arith) (λ e. omega arith)) (under 12 (omega arith) (λ e. omega arith)) fill-incoming fill-outgoing
+      line-changed v w _ _ (λ j h. under j (omega arith) (λ e. omega arith)) (under 12 (omega arith) (λ e. omega arith)) behind fill-incoming fill-outgoing
       ∙ ap (withQueues (streamIn w)) (sym (filled-is (queuesIn w) _ _ a b t fill-waiting))

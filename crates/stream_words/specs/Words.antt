@@ -1,7 +1,8 @@
 -- The stream that stands in 208 words. Places 0 to 7 are its record, 8 the buffers granted. The buffers in the queues stand in one line: the ith
 -- of the line has place (word 9 + i) modulo 32 in five rings of 32 words each, from 16 on its index, from 48 the frame's number, from 80 its bytes
 -- used, from 112 and 144 its time. Word 11 says how many stand in the line, and word 10 how many of them, from its start, hold a frame: those are
--- outgoing, the others incoming. Word 12 is the number that the next arrival gets. Words 13 to 15 and those from 176 on are not used.
+-- outgoing, the others incoming. Word 12 is the number that the next arrival gets. From 176 on stands how often each buffer is mapped, in the order of
+-- the indices. Words 13 to 15 are not used.
 use Prim.Native.Nat.{ℕ, _+_, _-_, _%_, _^_, min}
 use mathlib.Core.List.{List}
 use lib.ListN.{getD}
@@ -54,6 +55,10 @@ queuesIn w =
       outgoing = tab (λ i. frameIn w i) (holdingIn w);
     }
 
+-- how often each buffer is mapped
+unfoldable pub mapsIn : List ℕ → List ℕ
+mapsIn w = tab (λ k. getD w (176 + k) 0) 32
+
 -- the stream in the words
 unfoldable pub streamIn : List ℕ → Stream
 streamIn w =
@@ -63,4 +68,5 @@ streamIn w =
       run = record { ran = getD w 2 0; accepted = getD w 3 0; handed = getD w 4 0; damaged = getD w 5 0; dropped = getD w 6 0; discarded = getD w 7 0 };
       number = low (getD w 12 0);
       queues = queuesIn w;
+      maps = mapsIn w;
     }

@@ -83,6 +83,9 @@ pub const SECONDS: usize = 112;
 
 pub const MICROSECONDS: usize = 144;
 
+// How often each buffer is mapped, in the order of the indices.
+pub const MAPS: usize = 176;
+
 // The lower 32 bits of a word.
 pub fn low(n: u64) -> u32
     ensures { λ r. ⌜ r ≡ low n ⌝ }

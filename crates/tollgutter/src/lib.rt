@@ -6,7 +6,9 @@ ghost use lib.ListN.{length};
 ghost use Rattle.stream_words.specs.Words.{timeOf};
 ghost use Rattle.arrival_replies.specs.Answer.{toldOf};
 ghost use Rattle.request_topics.specs.Request.{requestAnswer};
+ghost use Rattle.stream_maps.specs.declared.Change.the-variants.{Map, Unmap};
 ghost use Rattle.device_film.specs.Film.{takenOf, takenMemory};
+ghost use Rattle.device_maps.specs.Mapping.{mappedOf};
 ghost use Rattle.device_planes.specs.Planes.{devicePlace};
 ghost use Rattle.device_opening.specs.Opening.{openedOf, wholeOf};
 ghost use Rattle.device_numbers.specs.Told.{verdictTold};
@@ -72,6 +74,42 @@ pub extern "C" fn tg_arrival(
         frame,
         seconds,
         microseconds,
+    )
+}
+
+// A client has mapped the buffer of this offset and length once more. It is counted here: the memory itself is the caller's to share.
+#[no_mangle]
+pub extern "C" fn tg_map(d: &mut Device, kind: u32, offset: u32, length: u32) -> u32
+    ensures { λ r. ⌜ (r ≡ mappedOf Map (wholeOf (now (d .entry)) .state) kind offset length .number)
+        × (wholeOf (now (d .exit)) .state ≡ mappedOf Map (wholeOf (now (d .entry)) .state) kind offset length .state)
+        × (now (d .exit) .sheet ≡ now (d .entry) .sheet) ⌝ }
+{
+    device_maps::map(
+        &d.setup,
+        &d.services,
+        &mut d.video,
+        &mut d.captions,
+        kind,
+        offset,
+        length,
+    )
+}
+
+// A client has given up one map of the buffer.
+#[no_mangle]
+pub extern "C" fn tg_unmap(d: &mut Device, kind: u32, offset: u32, length: u32) -> u32
+    ensures { λ r. ⌜ (r ≡ mappedOf Unmap (wholeOf (now (d .entry)) .state) kind offset length .number)
+        × (wholeOf (now (d .exit)) .state ≡ mappedOf Unmap (wholeOf (now (d .entry)) .state) kind offset length .state)
+        × (now (d .exit) .sheet ≡ now (d .entry) .sheet) ⌝ }
+{
+    device_maps::unmap(
+        &d.setup,
+        &d.services,
+        &mut d.video,
+        &mut d.captions,
+        kind,
+        offset,
+        length,
     )
 }
 

@@ -1,6 +1,6 @@
 -- The values of a function as a list. Assumes nothing.
 use mathlib.Core.Path.{_≡_, refl, sym, ap, _∙_}
-use mathlib.Core.Bool.{Bool, true, false, cond}
+use mathlib.Core.Bool.{Bool, true, false, cond, _||_}
 use Prim.Native.Nat.{ℕ, zero, suc, _+_, _-_, _<_}
 use native.Mathlib.Omega.{arith}
 use native.Mathlib.Numerals.{add-one}
@@ -91,3 +91,21 @@ module _ {A : Type 0} where
     first-found z f zero i h b e = absurd (omega arith)
     first-found z f (suc n) zero h b e = rw e
     first-found z f (suc n) (suc i) h b e = rw (b 0 (omega arith)) (first-found z (λ j. f (suc j)) n i (omega arith) (λ j l. b (suc j) (omega arith)) e)
+
+    any-last : (f : ℕ → A) (n : ℕ) → any p (tab f (suc n)) ≡ (any p (tab f n) || p (f n))
+    unfolding tab any
+    any-last f zero = by (p (f 0))
+      where
+        by : (b : Bool) → cond b true false ≡ b
+        by true = refl
+        by false = refl
+    any-last f (suc n) = by (p (f 0)) (any-last (λ i. f (suc i)) n)
+      where
+        by : (b : Bool) → any p (tab (λ i. f (suc i)) (suc n)) ≡ (any p (tab (λ i. f (suc i)) n) || p (f (suc n)))
+            → cond b true (any p (tab (λ i. f (suc i)) (suc n))) ≡ (cond b true (any p (tab (λ i. f (suc i)) n)) || p (f (suc n)))
+        by true e = refl
+        by false e = e
+
+    -- whether one of them passes, or one more
+    pub any-more : (f : ℕ → A) (n : ℕ) → any p (tab f (n + 1)) ≡ (any p (tab f n) || p (f n))
+    any-more f n = rw add-one (any-last f n)

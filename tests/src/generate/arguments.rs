@@ -65,6 +65,14 @@ pub fn reqbufs(random: &mut Random, kind: u32, least: u32) -> Vec<u8> {
     argument
 }
 
+/// A look at one buffer.
+pub fn querybuf(kind: u32, index: u32) -> Vec<u8> {
+    let mut argument = vec![0; words::size(QUERYBUF)];
+    put(&mut argument, 0, index);
+    put(&mut argument, 4, kind);
+    argument
+}
+
 fn enum_fmt(random: &mut Random, opened: Option<&Opened>, bytes: &mut [u8]) {
     let count = opened.map_or(1, |opened| opened.sheet.formats.len()) as u32;
     let index = match random.below(6) {

@@ -5,16 +5,18 @@ pub mod arguments;
 pub mod captions;
 pub mod damage;
 pub mod hostile;
+pub mod maps;
 pub mod sheets;
 
 use crate::draft::Draft;
 use crate::model::buffers::{Place, Stream};
+use crate::model::bytes::put;
 use crate::model::services::Lines;
 use crate::model::words::*;
 use crate::model::{Device, RUN_LIMIT};
 use crate::random::Random;
 use crate::recorder::{Recorder, CAPTIONS, PICTURES, STREAMS};
-use crate::session::{made_length, Arrival, Frame, Lent, Session, Step};
+use crate::session::{made_length, Arrival, Change, Frame, Lent, Mapping, Session, Step};
 
 /// How a session goes.
 #[derive(Clone, Copy, PartialEq)]
@@ -52,6 +54,11 @@ const LONGEST_FRAME: usize = 400_000;
 
 /// One in so many of the steps about a stream with a run on makes that run old.
 const AGES: usize = 64;
+
+/// So many of a hundred steps about a stream with buffers are about maps: more if one is mapped, since that buffer stands in the
+/// way of other calls.
+const MAPS: usize = 12;
+const MAPS_MAPPED: usize = 22;
 
 struct Generator {
     random: Random,
@@ -132,6 +139,8 @@ impl Generator {
                 self.device.arrival(arrival.kind, memory, &self.frame, arrival.seconds, arrival.microseconds);
             }
             Step::Plane { .. } => {}
+            Step::Map(one) => (0..one.times).for_each(|_| _ = one.once(Change::Map, &mut self.device)),
+            Step::Unmap(one) => (0..one.times).for_each(|_| _ = one.once(Change::Unmap, &mut self.device)),
             Step::Age(age) => {
                 if let Some(now) = self.device.accepted(age.kind) {
                     self.device.age(age.kind, age.past(now));
@@ -204,8 +213,12 @@ impl Generator {
         let (incoming, outgoing) = (stream.incoming.len(), stream.outgoing.len());
         let dequeued = stream.granted - incoming - outgoing;
         let is_full = streaming && stream.run.accepted == RUN_LIMIT;
+        let mapped = stream.is_mapped();
         if streaming && self.random.below(AGES) == 0 {
             return self.age(kind);
+        }
+        if buffers && self.random.chance(if mapped { MAPS_MAPPED } else { MAPS }) {
+            return self.map_step(kind, mapped);
         }
         // Nothing more can come of a run at its limit but what it holds, which a careful one hands over.
         if is_full && self.manner != Manner::Careful && self.random.chance(15) {
@@ -237,6 +250,96 @@ impl Generator {
             6 => self.stop(kind),
             _ => self.any_step(),
         }
+    }
+
+    /// Something about maps; what is mapped is mostly unmapped again before long.
+    fn map_step(&mut self, kind: u32, mapped: bool) {
+        // Map, unmap, all unmapped, REQBUFS while mapped, a stop while mapped, a look, both streams, the limit, something wrong.
+        let weights = if mapped { [150, 200, 250, 100, 40, 80, 30, 3, 90] } else { [650, 60, 0, 0, 0, 20, 60, 5, 120] };
+        match self.random.weighted(&weights) {
+            0 => self.map(kind),
+            1 => self.unmap(kind),
+            2 => self.unmap_all(kind),
+            3 => self.ask_while_mapped(kind),
+            4 if !self.keeps_run(kind) => {
+                self.request(kind, STREAMOFF);
+                self.look(kind);
+            }
+            4 | 5 => self.look(kind),
+            6 => STREAMS.into_iter().for_each(|kind| self.map(kind)),
+            7 => self.map_to_the_limit(kind),
+            _ => self.flawed_map(kind),
+        }
+    }
+
+    /// A run is on that is not to be stopped beside its own steps.
+    fn keeps_run(&self, kind: u32) -> bool {
+        matches!(self.manner, Manner::Careful | Manner::Full) && self.device.accepted(kind).is_some()
+    }
+
+    /// A buffer of the stream that is granted, if there is one; if `mapped` asks for it, one that is mapped.
+    fn slot(&mut self, kind: u32, mapped: bool) -> Option<Mapping> {
+        let stream = self.device.opened()?.stream(kind)?;
+        Some(maps::granted(&mut self.random, stream, mapped))
+    }
+
+    fn map(&mut self, kind: u32) {
+        let (again, times) = (self.random.chance(30), self.random.pick(&[1, 1, 1, 2, 3]));
+        if let Some(slot) = self.slot(kind, again) {
+            self.add(Step::Map(Mapping { times, ..slot }));
+        }
+    }
+
+    fn unmap(&mut self, kind: u32) {
+        let times = self.random.pick(&[1, 1, 1, 1, 2]);
+        if let Some(slot) = self.slot(kind, true) {
+            self.add(Step::Unmap(Mapping { times, ..slot }));
+        }
+    }
+
+    fn unmap_all(&mut self, kind: u32) {
+        let stream = self.device.opened().and_then(|opened| opened.stream(kind));
+        for slot in stream.map_or(Vec::new(), maps::all) {
+            self.add(Step::Unmap(slot));
+        }
+    }
+
+    /// Buffers are asked for while one is mapped, now and then of another kind of memory; then, mostly, all are unmapped, and the
+    /// same is asked again.
+    fn ask_while_mapped(&mut self, kind: u32) {
+        let least = self.random.pick(&[0, 0, 1]);
+        let mut argument = arguments::reqbufs(&mut self.random, kind, least);
+        put(&mut argument, 8, self.random.pick(&[1, 1, 1, 1, 1, 1, 1, 1, 0, 2]));
+        self.add(Step::Request { word: REQBUFS, argument: argument.clone() });
+        if self.random.chance(60) && !self.keeps_run(kind) {
+            self.unmap_all(kind);
+            self.add(Step::Request { word: REQBUFS, argument });
+        }
+    }
+
+    /// What QUERYBUF tells of a buffer that is mapped, if there is one.
+    fn look(&mut self, kind: u32) {
+        let mapped = self.device.opened().and_then(|opened| opened.stream(kind)).map(|stream| stream.maps);
+        let index = mapped.and_then(|maps| maps.iter().position(|count| *count > 0)).unwrap_or(0);
+        let argument = arguments::querybuf(kind, index as u32);
+        self.add(Step::Request { word: QUERYBUF, argument });
+    }
+
+    /// As many maps as a buffer can have, and more; then it is mostly unmapped again, now and then once too often.
+    fn map_to_the_limit(&mut self, kind: u32) {
+        let stream = self.device.opened().and_then(|opened| opened.stream(kind));
+        let Some(slot) = stream.map(|stream| maps::to_the_limit(&mut self.random, stream)) else { return };
+        self.add(Step::Map(slot));
+        if self.random.chance(60) {
+            let times = self.random.pick(&[1, 254, 255, 255, 256]);
+            self.add(Step::Unmap(Mapping { times, ..slot }));
+        }
+    }
+
+    fn flawed_map(&mut self, kind: u32) {
+        let mapping = maps::flawed(&mut self.random, self.device.opened(), kind);
+        let step = if self.random.chance(60) { Step::Map(mapping) } else { Step::Unmap(mapping) };
+        self.add(step);
     }
 
     /// The run of a stream grows old, and now and then that of the other one with it.
@@ -296,9 +399,10 @@ impl Generator {
 
     fn any_step(&mut self) {
         let kind = self.kind();
-        match self.random.below(16) {
+        match self.random.below(17) {
             0 => self.plane(),
             1 => self.arrival(kind),
+            16 => self.flawed_map(kind),
             2..=5 => {
                 let word = self.random.pick(&[S_CTRL, S_CTRL, G_CTRL, QUERYCTRL, TRY_FMT, S_CROP]);
                 self.request(kind, word);
@@ -367,10 +471,11 @@ impl Generator {
 
     fn hostile_step(&mut self) {
         let kind = self.kind();
-        match self.random.below(20) {
+        match self.random.below(21) {
             0 => self.plane(),
             1 => self.opening(),
             2..=4 => self.hostile_arrival(kind),
+            5 => self.flawed_map(kind),
             _ => {
                 let (word, argument) = hostile::request(&mut self.random, self.device.opened(), kind);
                 self.add(Step::Request { word, argument });

@@ -1,11 +1,17 @@
 //! A stream: its buffers, the two queues, and the run that fills them. Pictures and captions have one each.
 
 use super::bytes::{put, put_signed};
-use super::numbers::{EFAULT, EOVERFLOW};
+use super::numbers::{refuse, Outcome, EFAULT, EINVAL, EOVERFLOW};
 use super::{plain, refused, RUN_LIMIT};
 use crate::recorder::{Arrived, BLANK, COMPLETE, DAMAGED, DROPPED, GAPS, IGNORED, RUNNING, STORED};
 
 pub const MOST: usize = 32;
+
+/// A buffer can be mapped this often at once and no more.
+pub const MOST_MAPS: u8 = 255;
+
+/// The flag of a buffer that is mapped.
+pub const MAPPED: u32 = 1;
 
 /// Indices in the order in which they came, at most 32 of them.
 #[derive(Clone, Copy, Default)]
@@ -91,6 +97,8 @@ pub struct Stream {
     pub run: Run,
     pub granted: usize,
     pub places: [Place; MOST],
+    /// How often each buffer is mapped.
+    pub maps: [u8; MOST],
     pub incoming: Queue,
     pub outgoing: Queue,
 }
@@ -106,6 +114,7 @@ impl Stream {
             run: Run::default(),
             granted: 0,
             places: [Place::Dequeued; MOST],
+            maps: [0; MOST],
             incoming: Queue::default(),
             outgoing: Queue::default(),
         }
@@ -139,7 +148,42 @@ impl Stream {
         }
     }
 
-    /// Replaces the buffers by this many new ones, all dequeued.
+    /// The buffer whose slot this is: all of it, and nothing more.
+    #[inline]
+    fn buffer_at(&self, offset: u32, length: u32) -> Option<usize> {
+        let (offset, slot) = (u64::from(offset), self.slot());
+        if slot == 0 || u64::from(length) != slot || offset % slot != 0 {
+            return None;
+        }
+        let index = (offset / slot) as usize;
+        (index < self.granted).then_some(index)
+    }
+
+    /// A client has one more map of a buffer.
+    #[inline]
+    pub fn map(&mut self, offset: u32, length: u32) -> Outcome {
+        let index = self.buffer_at(offset, length).ok_or(EINVAL)?;
+        refuse(self.maps[index] == MOST_MAPS, EOVERFLOW)?;
+        self.maps[index] += 1;
+        Ok(())
+    }
+
+    /// A client has one map fewer.
+    #[inline]
+    pub fn unmap(&mut self, offset: u32, length: u32) -> Outcome {
+        let index = self.buffer_at(offset, length).ok_or(EINVAL)?;
+        refuse(self.maps[index] == 0, EINVAL)?;
+        self.maps[index] -= 1;
+        Ok(())
+    }
+
+    /// Some buffer is mapped: no buffer may be given away.
+    #[inline]
+    pub fn is_mapped(&self) -> bool {
+        self.maps != [0; MOST]
+    }
+
+    /// Replaces the buffers, of which none is mapped, by this many new ones, all dequeued.
     pub fn grant(&mut self, count: usize) {
         self.stop();
         self.granted = count;
@@ -168,13 +212,14 @@ impl Stream {
         }
     }
 
-    /// The 68 bytes about a buffer; bytes used, time and number only if it holds a frame.
+    /// The 68 bytes about a buffer. The flags also tell whether it is mapped; bytes used, time and number stand there only if it
+    /// holds a frame.
     #[inline]
     pub fn answer(&self, index: usize, flags: u32, frame: Option<Frame>, argument: &mut [u8; 68]) {
         *argument = [0; 68];
         put(argument, 0, index as u32);
         put(argument, 4, self.kind);
-        put(argument, 12, flags);
+        put(argument, 12, if self.maps[index] > 0 { flags | MAPPED } else { flags });
         put(argument, 16, 1);
         if let Some(frame) = frame {
             put(argument, 8, frame.used);

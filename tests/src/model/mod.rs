@@ -143,6 +143,22 @@ impl Device {
         }
     }
 
+    /// Counts a map of a buffer, told by its offset and length in the memory of its stream.
+    pub fn map(&mut self, kind: u32, offset: u32, length: u32) -> u32 {
+        number(self.stream_mut(kind).and_then(|stream| stream.map(offset, length)))
+    }
+
+    /// Takes one off that count.
+    pub fn unmap(&mut self, kind: u32, offset: u32, length: u32) -> u32 {
+        number(self.stream_mut(kind).and_then(|stream| stream.unmap(offset, length)))
+    }
+
+    /// The stream that the type names: a closed device has none.
+    #[inline]
+    fn stream_mut(&mut self, kind: u32) -> Result<&mut Stream, u32> {
+        self.opened.as_mut().and_then(|opened| opened.stream_mut(kind)).ok_or(EINVAL)
+    }
+
     /// Of the stream that the type names; a closed device and another type have no film.
     pub fn verdict(&self, kind: u32) -> u32 {
         let stream = self.opened.as_ref().and_then(|opened| opened.stream(kind));

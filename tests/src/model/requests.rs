@@ -125,10 +125,12 @@ impl Opened {
         Ok(())
     }
 
-    /// Grants the least of the count, 32, and what the memory holds. A count of 0 also stops a run.
+    /// Grants the least of the count, 32, and what the memory holds. A count of 0 also stops a run. While a buffer of the stream is
+    /// mapped, no count is granted and no run is stopped.
     fn reqbufs(&mut self, argument: &mut [u8; 20]) -> Outcome {
         let stream = self.named(argument, 4)?;
         check_memory(argument, 8)?;
+        refuse(stream.is_mapped(), EBUSY)?;
         let count = word(argument, 0);
         refuse(count > 0 && stream.streaming, EBUSY)?;
         let granted = stream.fitting().min(count as u64).min(MOST as u64);

@@ -9,10 +9,15 @@ use Rattle.sheet_geometry.specs.Geometry.{rangeAt, widthsOf, lineAlignment, rec
 use Rattle.grid_rules.specs.Grid.{nearestMultiple, nearestUpTo, nearestSize, nearestValue, apart, firstUnbeaten, sizesOf, walkSizes}
 use Rattle.format_rules.specs.Code.{bytesPerPixel, halfChroma}
 use Rattle.format_rules.specs.Size.{roundUp, bytesPerLine, heldHeight, firstPlane, imageSize}
-use Rattle.stream_slots.specs.Slot.{slotSize}
+use Rattle.stream_slots.specs.Slot.{slotSize, isSlot, slotAt}
+use Rattle.stream_maps.specs.Maps.{anyMapped, noMaps}
+use Rattle.stream_mmap.specs.Mapping.{changeOf}
+use Rattle.stream_status.specs.Buffer.{queryOf, statusOf, describedOf}
+use Rattle.buffer_replies.specs.Replies.{bufferReply}
+use Rattle.device_maps.specs.Mapping.{mappedOf}
 use Rattle.stream_run.specs.Switches.{grantOf, requestBuffersOf as bufferRequest, startOf, stopOf}
 use Rattle.stream_run.specs.Stream.{freshStream, started, stopped}
-use Rattle.stream_words.specs.Moves.{emptied, filledOldest}
+use Rattle.stream_words.specs.Moves.{emptied, filledOldest, standingOf, isIncoming, isOutgoing}
 use Rattle.stream_arrival.specs.Arrivals.{placedOf, acceptedOf, arrivalOf}
 use Rattle.sheet_copy.specs.Copy.{keptOf}
 use Rattle.sheet_contents.specs.Contents.{formatsAt, formatAt}
@@ -23,7 +28,7 @@ use Rattle.negotiation_rules.specs.Negotiation.{openingFormat}
 use Rattle.control_value_rules.specs.Values.{defaultValues, openingValues}
 use Rattle.stream_verdict.specs.Film.{verdictAfter, verdictOf}
 use Rattle.device_state.specs.State.{openingState}
-use Rattle.buffer_calls.specs.Buffers.{reqbufsOf}
+use Rattle.buffer_calls.specs.Buffers.{reqbufsOf, querybufOf}
 use Rattle.run_calls.specs.Runs.{streamonOf, streamoffOf}
 use Rattle.device_opening.specs.Opening.{openedOf}
 use Rattle.request_topics.specs.Request.{requestAnswer}
@@ -66,7 +71,7 @@ abbrev table : List Figure
 table = figuresOf (openingState (keptOf benchSheet) benchMemory captionMemory) (openingState (keptOf oddSheet) benchMemory captionMemory)
 
 computed : map (λ f. f .got) table ≡ map (λ f. f .expected) table
-unfolding figuresOf arrivalOf acceptedOf placedOf filledOldest any first apart firstUnbeaten sizesOf walkSizes offered offersAmong chosenCode askedFormat pictureWords formatReply sFmtOf tryFmtOf halfAt askedServices sServicesOf tab anyBelow has setOf offeredAt capabilityLines common fittingAt negotiatedLines unionOf countBelow ioSize keptOf knownWords callOf requestOf openingState openingFormat openingValues defaultValues freshStream emptied requestAnswer reqbufsOf streamonOf streamoffOf bufferRequest startOf started stopOf stopped deviceVerdict verdictOf verdictAfter formatCode formatAt formatsAt heightsOf grantOf benchSheet wordAt le32 bytesOf signed bits signedAt above geometryAt controlsAt controlCount controlAt controlId controlKind limitsOf controlFlags controlFields rangeAt widthsOf lineAlignment rectAt cropBounds cropDefault nearestMultiple nearestUpTo nearestSize nearestValue bytesPerPixel halfChroma roundUp bytesPerLine heldHeight firstPlane imageSize slotSize planesOf componentOf componentLength planeLength planeStart negotiated minZ maxZ clampZ sizeIn clampedPlace evenDown fieldsApart widthIn heightIn leftIn clampedTop topIn clamped openingCrop distance oddSheet pixelAspect cropReply cropCapabilityReply askedCrop cropcapOf gCropOf sCropOf firstFrom firstBelow present placeOf rangedAt settingAt settingOf sCtrlOf valueReply
+unfolding figuresOf arrivalOf acceptedOf placedOf filledOldest any first apart firstUnbeaten sizesOf walkSizes offered offersAmong chosenCode askedFormat pictureWords formatReply sFmtOf tryFmtOf halfAt askedServices sServicesOf tab anyBelow has setOf offeredAt capabilityLines common fittingAt negotiatedLines unionOf countBelow ioSize keptOf knownWords callOf requestOf openingState openingFormat openingValues defaultValues freshStream emptied requestAnswer reqbufsOf streamonOf streamoffOf bufferRequest startOf started stopOf stopped deviceVerdict verdictOf verdictAfter formatCode formatAt formatsAt heightsOf grantOf benchSheet wordAt le32 bytesOf signed bits signedAt above geometryAt controlsAt controlCount controlAt controlId controlKind limitsOf controlFlags controlFields rangeAt widthsOf lineAlignment rectAt cropBounds cropDefault nearestMultiple nearestUpTo nearestSize nearestValue bytesPerPixel halfChroma roundUp bytesPerLine heldHeight firstPlane imageSize slotSize planesOf componentOf componentLength planeLength planeStart negotiated minZ maxZ clampZ sizeIn clampedPlace evenDown fieldsApart widthIn heightIn leftIn clampedTop topIn clamped openingCrop distance oddSheet pixelAspect cropReply cropCapabilityReply askedCrop cropcapOf gCropOf sCropOf firstFrom firstBelow present placeOf rangedAt settingAt settingOf sCtrlOf valueReply mappedOf changeOf isSlot slotAt anyMapped noMaps querybufOf queryOf statusOf describedOf standingOf isIncoming isOutgoing bufferReply
 computed = refl
 
 returns : tie.Need-returns

@@ -51,11 +51,11 @@ returns-2 : tie.Need-returns-2
 unfolding dqbufOf
 returns-2 c =
     let p = c .before .before in
-    let e = p .before .before .before .before in
+    let e = p .before .before .before .before .before in
     let m = e .before .before .before .before in
     let a = m .before .before .before .before .args in
     rw (is-one (m .before .word-at .ensures) (m .if1 .left))
-    (step-told (e .before .before .dequeue .ensures) (λ q z. dequeueReply q (a .kind) (a .size) (now (a .argument))) _ (e .f .given .1) refl
+    (step-told (e .before .before .dequeue .ensures) (λ q z. dequeueReply q z (a .kind) (a .size) (now (a .argument))) _ (e .f .given .1) refl
     (rw (p .before .returned .ensures) at (p .put-buffer .ensures)))
 
 same-length-3 : tie.Need-same-length-3
@@ -68,7 +68,7 @@ returns-3 c =
     let m = e .before .before in
     let a = m .before .before .before .before .args in
     rw (is-one (m .before .word-at .ensures) (m .if1 .left))
-    (step-told (e .dequeue .ensures) (λ q z. dequeueReply q (a .kind) (a .size) (now (a .argument))) _ (c .before .before .why .given .1) (c .errno2 .ensures) refl)
+    (step-told (e .dequeue .ensures) (λ q z. dequeueReply q z (a .kind) (a .size) (now (a .argument))) _ (c .before .before .why .given .1) (c .errno2 .ensures) refl)
 
 same-length-4 : tie.Need-same-length-4
 same-length-4 c = search needs
@@ -80,7 +80,7 @@ returns-4 c =
     let m = e .before .before in
     let a = m .before .before .before .before .args in
     rw (is-one (m .before .word-at .ensures) (m .if1 .left))
-    (step-told (e .dequeue .ensures) (λ q z. dequeueReply q (a .kind) (a .size) (now (a .argument))) _ (c .enum-told .given .1) refl refl)
+    (step-told (e .dequeue .ensures) (λ q z. dequeueReply q z (a .kind) (a .size) (now (a .argument))) _ (c .enum-told .given .1) refl refl)
 
 same-length-5 : tie.Need-same-length-5
 same-length-5 c = search needs
@@ -92,7 +92,7 @@ returns-5 c =
     let m = e .before .before in
     let a = m .before .before .before .before .args in
     rw (is-one (m .before .word-at .ensures) (m .if1 .left))
-    (step-told (e .dequeue .ensures) (λ q z. dequeueReply q (a .kind) (a .size) (now (a .argument))) _ (c .enum-told2 .given .1) refl refl)
+    (step-told (e .dequeue .ensures) (λ q z. dequeueReply q z (a .kind) (a .size) (now (a .argument))) _ (c .enum-told2 .given .1) refl refl)
 
 pub dqbuf-spec : {M : Type 1} → statement M
 dqbuf-spec =

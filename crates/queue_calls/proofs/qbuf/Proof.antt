@@ -2,6 +2,7 @@
 use mathlib.Core.Path.{refl, ap, _∙_}
 use mathlib.Core.Bool.{Bool}
 use denote.Ref.{now}
+use Rattle.stream_words.specs.Words.{streamIn}
 use Rattle.stream_status.specs.Buffer.{queuedOf}
 use Rattle.stream_status.proofs.Joined.{queued-status}
 use Rattle.queue_calls.specs.Queues.{enqueueReply, qbufOf}
@@ -60,17 +61,18 @@ returns-2 : tie.Need-returns-2
 unfolding qbufOf
 returns-2 c =
     let p = c .before .before in
-    let e = p .before .before .before .before .before in
+    let told = p .before .before .before .before .enum-told in
+    let e = p .before .before .before .before .before .before in
     let h = e .before .before in
     let k = h .before .before in
     let m = k .before .before in
     let a = m .before .before .before .before .args in
     let q = p .before .queued in
-    let is = rw (p .before .before .before .enum-told .given .1) at (e .enqueue .ensures) in
-    let told = q .ensures ∙ ap (λ (b : Bool). queuedOf (k .word-at2 .result) b (a .size)) (h .has-room .ensures) ∙ queued-status _ _ (k .word-at2 .result) (a .size) is in
+    let is = rw (told .given .1) at (e .enqueue .ensures) in
+    let status = q .ensures ∙ ap (λ (b : Bool). queuedOf (streamIn (e .enqueue .last .0) .maps) (k .word-at2 .result) b (a .size)) (h .has-room .ensures) ∙ queued-status _ _ (k .word-at2 .result) (a .size) is in
     rw (is-one (m .before .word-at .ensures) (m .if1 .left))
-    (step-told (rw (k .word-at2 .ensures) at (e .enqueue .ensures)) (λ q z. enqueueReply q z (a .kind) (a .size) (now (a .argument))) _ (p .before .before .before .enum-told .given .1) refl
-    (rw (told, k .word-at2 .ensures) at (p .put-buffer .ensures)))
+    (step-told (rw (k .word-at2 .ensures) at (e .enqueue .ensures)) (λ q z. enqueueReply q z (a .kind) (a .size) (now (a .argument))) _ (told .given .1) refl
+    (rw (status, k .word-at2 .ensures) at (p .put-buffer .ensures)))
 
 same-length-3 : tie.Need-same-length-3
 same-length-3 c = search needs

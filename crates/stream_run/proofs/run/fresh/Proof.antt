@@ -1,6 +1,7 @@
 -- The words compute to the stream. Assumes nothing.
 use Rattle.stream_run.specs.Stream.{freshStream}
-use Rattle.stream_words.specs.Words.{queuesIn, streamIn}
+use Rattle.stream_words.specs.Words.{queuesIn, mapsIn, streamIn}
+use Rattle.stream_maps.specs.Maps.{noMaps}
 use Rattle.stream_words.specs.Moves.{emptied}
 use Rattle.wire_read.specs.Lists.{tab}
 use mathlib.Core.Path.{refl}
@@ -12,7 +13,7 @@ array-write-w : tie.Need-array-write-w
 array-write-w c = search needs
 
 returns : tie.Need-returns
-unfolding freshStream emptied streamIn queuesIn tab
+unfolding freshStream emptied streamIn queuesIn mapsIn noMaps tab
 returns c = refl
 
 pub fresh-spec : {M : Type 1} → statement M

@@ -1,7 +1,7 @@
 -- Three arms compute; in the fourth `errno` gives the number. Assumes nothing.
 use borrow.Author.Needs.{needs}
-use Rattle.run_calls.proofs.reply_number.Statement.{statement}
-use Rattle.run_calls.proofs.reply_number.Tie as tie
+use Rattle.stream_run.proofs.numbers.reply_number.Statement.{statement}
+use Rattle.stream_run.proofs.numbers.reply_number.Tie as tie
 
 enum-told : tie.Need-enum-told
 enum-told c = search needs
