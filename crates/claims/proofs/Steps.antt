@@ -14,7 +14,7 @@ use Rattle.wire_read.proofs.Stores.{sets-all}
 use Rattle.ioctl_table.specs.Refusal.{errnoOf}
 use Rattle.ioctl_table.specs.Table.{argumentSize, requestOf}
 use Rattle.ioctl_table.specs.declared.refusals.Refusal.{Refusal}
-use Rattle.ioctl_table.specs.declared.refusals.Refusal.the-variants.{Streaming as busy, StillMapped, NoSuchIndex, NoSuchControl, BuffersExist, Closed, UnknownWord, ArgumentLength, WrongType, WrongMemory}
+use Rattle.ioctl_table.specs.declared.refusals.Refusal.the-variants.{Streaming as busy, NoBuffers, NotStreaming, StillMapped, NoSuchIndex, NoSuchControl, BuffersExist, Closed, UnknownWord, ArgumentLength, WrongType, WrongMemory}
 use Rattle.ioctl_table.specs.declared.table.Call.{Call as Asked}
 use Rattle.ioctl_table.specs.declared.table.Call.the-variants.{Unknown, Querycap, EnumFmt, GFmt, SFmt, TryFmt, Reqbufs, Querybuf, Qbuf, Dqbuf, Streamon, Streamoff, GCtrl, SCtrl, Queryctrl, Cropcap, GCrop, SCrop, GSlicedVbiCap}
 use Rattle.ioctl_table.proofs.Numbers.{errno-positive}
@@ -34,8 +34,10 @@ use Rattle.stream_run.specs.Switches.{Step}
 use Rattle.stream_words.specs.Stream.{Stream}
 use Rattle.stream_run.specs.Stream.{reduced, streaming, stopped}
 use Rattle.stream_run.specs.Switches.{answers, refuses, grantOf, requestBuffersOf as bufferRequest, startOf, stopOf}
-use Rattle.stream_queue.specs.Queueing.{enqueueOf, dequeueOf}
-use Rattle.stream_queue.proofs.Maps.{dequeue-maps}
+use Rattle.stream_words.specs.declared.Oldest.{Oldest}
+use Rattle.stream_words.specs.declared.Oldest.the-variants.{Empty, Frame}
+use Rattle.stream_words.specs.Moves.{oldestOf}
+use Rattle.stream_queue.specs.Queueing.{enqueueOf, handedOver, dequeueOf}
 use Rattle.stream_run.specs.Numbers.{replyNumber}
 use Rattle.stream_run.proofs.Grants.{grant-few}
 use Rattle.stream_status.specs.declared.Queried.{Queried}
@@ -165,6 +167,17 @@ accepted-number (replies.Refused why) h = absurd (true≢false h)
 pub never-told : (x : Bool) (v : Event) → cond x (cond false v idle) idle ≡ idle
 never-told true v = refl
 never-told false v = refl
+
+-- a buffer that is handed over leaves the map counts as they were
+dequeue-maps : (s : Stream) → dequeueOf s .stream .maps ≡ s .maps
+unfolding dequeueOf
+dequeue-maps s = by (eqb (s .queues .granted) 0) (not (streaming s)) (oldestOf (s .queues .outgoing))
+  where
+    by : (x y : Bool) (o : Oldest) → cond x (refuses NoBuffers s) (cond y (refuses NotStreaming s) (handedOver o s)) .stream .maps ≡ s .maps
+    by true y o = refl
+    by false true o = refl
+    by false false Empty = refl
+    by false false (Frame f) = refl
 
 -- what a stream's answer makes of the device
 module _ (b : Box) (r : StreamAnswer) where
