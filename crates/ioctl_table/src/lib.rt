@@ -1,4 +1,6 @@
 // The eighteen known request words, and the reasons and numbers of refusals.
+#![tactic(auto)]
+
 mod refusals;
 mod table;
 

@@ -71,8 +71,8 @@ fn row(w: u32) -> Request
 // What the word asks for: Unknown, with an argument of no bytes, where it is none of the eighteen. The length of a known word's argument
 // is the one that the word itself names in its bits 29 to 16.
 pub fn lookup(w: u32) -> Request
-    ensures value { result ≡ request_of w }
-    ensures fact { (result.call ≡ Unknown) ⊎ (result.size ≡ size_of w) }
+    ensures row { result ≡ request_of w }
+    ensures sized { (result.call ≡ Unknown) ⊎ (result.size ≡ size_of w) }
 {
     row(w)
 }

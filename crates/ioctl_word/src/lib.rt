@@ -1,4 +1,6 @@
 // The fields of a request word: taken apart, and built, by shifts and masks.
+#![tactic(auto)]
+
 ghost use Rattle.std.specs.Prelude.{◌≡◌};
 ghost use Rattle.ioctl_word.specs.Word.{direction_of, size_of, letter_of, number_of, word_of};
 

@@ -1,4 +1,6 @@
 // A sheet's table of contents: how many formats and controls there are, and where each body starts.
+#![tactic(auto)]
+
 ghost use Rattle.std.specs.Prelude.{◌≡◌, ◌<◌};
 ghost use Rattle.sheet_contents.specs.Contents.{identity_at, format_count, control_count, format_at, geometry_at, control_at};
 

@@ -1,4 +1,6 @@
 // A sheet's formats, field by field, and what the fields of its controls are. Those are read in `sheet_controls`.
+#![tactic(auto)]
+
 mod formats;
 
 pub use formats::{format_code, format_description};

@@ -1,4 +1,6 @@
 // The place of a buffer in memory.
+#![tactic(auto)]
+
 ghost use Rattle.std.specs.Prelude.{◌≡◌};
 ghost use Rattle.stream_slots.specs.Slot.{slot_size, slot_offset, slot_at};
 

@@ -1,5 +1,7 @@
 // The words of a stream, and the line of buffers that stands in them: its front part holds frames, the rest waits for one. All numbers of a
 // stream stand in one array, `Words`, that the caller lends, so that a call changes it in place and moves nothing. Every value is answered.
+#![tactic(auto)]
+
 ghost use Rattle.std.specs.Prelude.{◌≡◌};
 ghost use Rattle.stream_words.specs.Words.{low, lined_in, holding_in, place_in, index_in};
 

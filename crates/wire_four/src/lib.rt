@@ -1,4 +1,6 @@
 // Four words in a row, and whether bytes lie within a length.
+#![tactic(auto)]
+
 ghost use Rattle.std.specs.Prelude.{◌≡◌, ◌+◌, leb};
 ghost use Rattle.wire_read.specs.Words.{four_words};
 

@@ -1,7 +1,7 @@
 -- Runs of stores, `sets l at vs`: as far as the list reaches, each where it belongs, and nothing else touched.
 -- The length is kept: `length-sets` of lib.Seq. Assumes nothing.
 use mathlib.Core.Path.{◌≡◌, refl, sym, ap, ◌∙◌}
-use mathlib.Core.List.{List, [], ◌∷◌, ◌++◌, append-nil, append_assoc}
+use mathlib.Core.List.{List, [], ◌∷◌, ◌++◌, append-nil}
 use Prim.Native.Nat.{ℕ, zero, suc, ◌+◌, ◌-◌, min, ◌≤◌, ◌<◌}
 use mathlib.Core.Bool.{Bool, true, false}
 use borrow.Author.Tests.{leb-true, leb-false, ltb-true, ltb-false}
@@ -9,8 +9,8 @@ use lib.Dec.{leb, ltb}
 use native.Mathlib.Nat.{add-zero, add-suc, suc-add, zero-add}
 use native.Mathlib.Numerals.{add-one}
 use native.Mathlib.Omega.{arith}
-use lib.ListN.{length, get_or, take, drop, set, replicate, length-set, length-append, length-replicate, replicate-append-replicate, drop_of_length-le, get_or-replicate}
-use lib.Seq.{sets, sets-eq, length-sets, set_out, set-set, set_comm, drop_at, drop-cons, get_or-set_same, get_or-set_other}
+use lib.ListN.{length, get_or, drop, set, replicate, length-set, length-append, length-replicate, replicate-append-replicate, drop_of_length-le, get_or-replicate}
+use lib.Seq.{sets, sets-eq, set_out, set-set, set_comm, drop_at, drop-cons, get_or-set_same, get_or-set_other}
 use Rattle.wire_read.proofs.Lists.{past_end}
 
 -- nothing is stored past the end

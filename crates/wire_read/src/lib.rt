@@ -1,4 +1,6 @@
 // Reading lent bytes: a 32-bit little-endian word, a part. Every place and every length is taken: what lies past the end reads as 0, or is not there.
+#![tactic(auto)]
+
 ghost use Rattle.std.specs.Prelude.{◌≡◌, ◌+◌, ◌*◌, ◌<◌, length, get_or, take, drop};
 ghost use Rattle.wire_read.specs.Words.{word_at};
 

@@ -7,7 +7,7 @@ use native.Mathlib.Omega.{arith}
 use native.Mathlib.Nat.{zero-add}
 use borrow.Author.Tests.{ltb-true, ltb-false, le-ltb, lt-ltb, leb-true, le-leb, lt-leb}
 use lib.Dec.{ltb, leb}
-use lib.IntN.{ℤ, pos, negsuc, neg_ℤ, ◌+ℤ◌, ◌-ℤ◌, sub_ℕ}
+use lib.IntN.{ℤ, pos, negsuc, ◌+ℤ◌, ◌-ℤ◌, sub_ℕ}
 use lib.Signed.{mag, lt_z, le_z}
 use mir.Syntax.{w32}
 use mir.Val.{to_z, of_z}
@@ -19,7 +19,7 @@ use Rattle.wire_signed.specs.Signed.{signed, bits, above, distance}
 
 -- a number of 32 bits goes through its bits unchanged, as each use of an i32 does
 pub again : (z : ℤ) → mag z < 2 ^ 31 → to_z w32 (of_z w32 z) ≡ z
-again z h = to_z-of_z (record { sfits = h })
+again z h = to_z-of_z {w = w32} {z = z} (record { sfits = h })
 
 pub signed_bits : (z : ℤ) → mag z < 2 ^ 31 → signed (bits z) ≡ z
 unfolding signed bits

@@ -1,4 +1,6 @@
 // 32 bits as a signed number, and back.
+#![tactic(auto)]
+
 ghost use Rattle.std.specs.Prelude.{◌≡◌};
 ghost use Rattle.wire_signed.specs.Signed.{signed, bits, biased_of, signed_at};
 

@@ -1,4 +1,6 @@
 // Words stored in a lent slice, as far as it reaches.
+#![tactic(auto)]
+
 ghost use Rattle.std.specs.Prelude.{◌≡◌, ◌+◌, ◌*◌, ◌≤◌, length};
 ghost use Rattle.std.proofs.lemmas.List.Edits.{sets};
 ghost use Rattle.wire_read.specs.Words.{le32, bytes_of};

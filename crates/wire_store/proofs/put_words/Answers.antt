@@ -1,0 +1,9 @@
+-- Past the end nothing is stored; the rest is what the two loops ensure. Assumes nothing.
+use mathlib.Core.Path.{sym}
+use Rattle.wire_read.specs.Words.{bytes_of}
+use Rattle.wire_read.proofs.Stores.{sets_out}
+use borrow.Author.Rules.{rules}
+use Rattle.wire_store.proofs.put_words.Goals as goal
+
+pub returns-then-dst-at : goal.returns-then-dst-at
+returns-then-dst-at c = let a = c.args in sym (sets_out (bytes_of a.ws.now) a.dst.now a.at (search rules))

@@ -1,0 +1,29 @@
+-- The invariant: what is left to store, stored now, gives what the function ensures. Assumes nothing.
+use mathlib.Core.Path.{◌∙◌, sym, ap}
+use lib.ListN.{length, drop, drop_of_length-le}
+use lib.Seq.{length-sets}
+use borrow.Author.Rules.{rules}
+use Rattle.wire_read.specs.Words.{bytes_of}
+use Rattle.wire_read.proofs.Stores.{sets_out}
+use Rattle.wire_read.proofs.Words.{words_turn}
+use Rattle.wire_store.proofs.store_some.Goals as goal
+
+pub returns-then-dst-k : goal.returns-then-dst-k
+returns-then-dst-k c =
+    let l = c.loop-i in
+    let ws = c.args.ws.now in
+    sym (sets_out (bytes_of (drop l.i ws)) l.dst l.k (search rules)) ∙ l.invariant.2
+
+pub loop-i-preserved : goal.loop-i-preserved
+loop-i-preserved c =
+    let l = c.loop-i in
+    let ws = c.args.ws.now in
+    let e = c.put_word.ensures in
+    (search rules, ap length e ∙ simp length-sets l.invariant.1, rw e (sym (words_turn l.dst ws l.k l.i (search rules)) ∙ l.invariant.2))
+
+pub returns : goal.returns
+unfolding bytes_of
+returns c =
+    let l = c.loop-i in
+    let ws = c.args.ws.now in
+    rw (drop_of_length-le ws {i = l.i} (search rules)) at l.invariant.2
