@@ -37,8 +37,8 @@ pub record Figure : Type 0 where
   pub got : ℤ
   pub expected : ℤ
 
-infix 70 _gives_
-abbrev _gives_ : ℤ → ℤ → Figure
+infix 70 ◌gives◌
+abbrev ◌gives◌ : ℤ → ℤ → Figure
 g gives e = record { got = g; expected = e }
 
 abbrev minus : ℕ → ℤ

@@ -31,7 +31,7 @@ use Rattle.device_maps.specs.Mapping.{mapped_of}
 use Rattle.device_film.specs.Film.{device_verdict}
 use Rattle.stream_history.specs.Paper.{Pair, Paper, Event, index_of, blank, refused_arrival, frame_of, filled, step, noted, wholes, dequeues, Calm}
 use Rattle.stream_history.specs.Paper.Event.{put, whole, damaged, handed, begun, changed, idle}
-use Rattle.stream_history.specs.Claims.{_⇔_}
+use Rattle.stream_history.specs.Claims.{◌⇔◌}
 use Rattle.stream_history.proofs.Lists.{All, all_append}
 use Rattle.stream_history.proofs.Sound.{Fits, sound_blank}
 use Rattle.stream_history.proofs.Rising.{Ordered, ordered_after, ordered_blank}

@@ -24,7 +24,7 @@ use Rattle.stream_arrival.specs.Arrivals.{run_limit, written_by}
 use Rattle.stream_verdict.specs.declared.Verdict.TheVariants.{Running, Blank, Gaps, Complete}
 use Rattle.stream_history.specs.Paper.{Event, wholes, dequeues, changes, Calm}
 use Rattle.stream_history.specs.Paper.Event.{whole}
-use Rattle.stream_history.specs.Claims.{_⇔_, mapped_on, times_in, times_out, AllHandedOver}
+use Rattle.stream_history.specs.Claims.{◌⇔◌, mapped_on, times_in, times_out, AllHandedOver}
 use Rattle.claims.specs.Calls.{Kind, type_of, Call, arrival_time}
 use Rattle.claims.specs.Calls.Call.{request, arrival, change}
 use Rattle.claims.specs.Machine.{Session, more, NoTrace}

@@ -5,7 +5,7 @@ use Rattle.wire_read.specs.Words.{word_at}
 use Rattle.ioctl_table.specs.Table.{request_of}
 use Rattle.ioctl_table.specs.declared.table.Call.{Call as Asked}
 use Rattle.ioctl_table.specs.declared.table.Call.TheVariants.{Reqbufs, Dqbuf, Streamon, Streamoff}
-use Rattle.stream_history.specs.Claims.{_⇔_}
+use Rattle.stream_history.specs.Claims.{◌⇔◌}
 use Rattle.claims.specs.Calls.{Kind, type_of, Call}
 use Rattle.claims.specs.Calls.Call.{request}
 use Rattle.claims.specs.Machine.{Session, more}

@@ -47,8 +47,8 @@ pub record Case : Type 0 where
   pub asked : Rect
   pub taken : Rect
 
-infix 70 _gives_
-abbrev _gives_ : Rect → Rect → Case
+infix 70 ◌gives◌
+abbrev ◌gives◌ : Rect → Rect → Case
 a gives t = record { asked = a; taken = t }
 
 -- in the bounds with top 0

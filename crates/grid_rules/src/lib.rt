@@ -1,5 +1,7 @@
 // The nearest of the numbers that go from a least one to a greatest by a step: sizes, and the values of a control.
 // Arithmetic only. Every grid has an answer; with a step of 0, or a greatest below the least, it is the least.
+#![tactic(auto)]
+
 ghost use Rattle.std.specs.Prelude.{◌≡◌, ◌+◌, ◌-◌};
 ghost use Rattle.wire_signed.specs.Signed.{biased_of};
 ghost use Rattle.grid_rules.specs.Grid.{nearest_up_to, nearest_size, nearest_value};

@@ -5,9 +5,8 @@ use mathlib.Core.Bool.{Bool, true, false, cond, ◌&&◌, false≢true}
 use mathlib.Core.List.{List}
 use Prim.Native.Nat.{ℕ, ◌*◌, ◌/◌, ◌%◌, ◌≤◌, ◌<◌}
 use native.Mathlib.Omega.{arith}
-use lib.Dec.{eqb, leb, ltb}
+use lib.Dec.{eqb, ltb}
 use lib.ListN.{get_or, set, replicate}
-use borrow.Author.Tests.{ltb-true}
 use Rattle.wire_read.specs.Lists.{tab}
 use Rattle.wire_read.proofs.Tabs.{tab_same, tab_get}
 use Rattle.sheet_rules.specs.Folds.{any_below}

@@ -1,4 +1,6 @@
 // The data services of the sliced lines: where the device offers them, and what it makes of those that a client asks for.
+#![tactic(auto)]
+
 mod lines;
 mod sets;
 

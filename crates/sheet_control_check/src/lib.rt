@@ -1,4 +1,6 @@
 // Whether the controls of a sheet keep the rules.
+#![tactic(auto)]
+
 ghost use Rattle.std.specs.Prelude.{◌≡◌};
 ghost use Rattle.sheet_records.specs.Records.{limits_of};
 ghost use Rattle.sheet_rules.specs.Rules.{limits_ok, control_ok, rising_at, controls_ok};

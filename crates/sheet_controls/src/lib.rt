@@ -1,4 +1,6 @@
 // The controls of a sheet: 68 bytes each, as v4l2_queryctrl.
+#![tactic(auto)]
+
 ghost use Rattle.std.specs.Prelude.{◌≡◌};
 ghost use Rattle.sheet_records.specs.Records.{control_id, limits_at, control_fields};
 

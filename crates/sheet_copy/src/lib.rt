@@ -1,4 +1,6 @@
 // The device's own copy of its sheet.
+#![tactic(auto)]
+
 ghost use Rattle.std.specs.Prelude.{◌≡◌};
 ghost use Rattle.sheet_copy.specs.Copy.{kept_of};
 

@@ -1,4 +1,6 @@
 // The crop of a sheet: bounds, default and pixel aspect.
+#![tactic(auto)]
+
 ghost use Rattle.std.specs.Prelude.{◌≡◌};
 ghost use Rattle.sheet_geometry.specs.Geometry.{rect_at, crop_bounds, crop_default, pixel_aspect};
 

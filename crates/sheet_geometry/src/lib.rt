@@ -1,4 +1,6 @@
 // The geometry of a sheet: what its numbers are, and its sizes and line alignment. The crop is in `sheet_crop`.
+#![tactic(auto)]
+
 ghost use Rattle.std.specs.Prelude.{◌≡◌};
 ghost use Rattle.sheet_geometry.specs.Geometry.{range_at, widths_of, heights_of, line_alignment};
 

@@ -1,4 +1,6 @@
 // Whether the geometry of a sheet keeps the rules.
+#![tactic(auto)]
+
 ghost use Rattle.std.specs.Prelude.{◌≡◌};
 ghost use Rattle.wire_signed.specs.Signed.{signed, signed_at};
 ghost use Rattle.sheet_geometry.specs.Geometry.{crop_bounds, crop_default};

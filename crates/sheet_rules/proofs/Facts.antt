@@ -1,27 +1,23 @@
 -- What the rules of a good sheet say of its fields, for the layers above. Assumes nothing.
-use Prim.Native.Nat.{ℕ, zero, suc, ◌+◌, ◌-◌, ◌*◌, ◌/◌, ◌%◌, ◌≤◌, ◌<◌}
-use mathlib.Core.Path.{◌≡◌, refl, sym, ap, ◌∙◌}
-use mathlib.Core.Logic.{◌⊎◌, inl, inr, ⊎_elim}
+use Prim.Native.Nat.{ℕ, ◌+◌, ◌-◌, ◌*◌, ◌/◌, ◌%◌, ◌≤◌, ◌<◌}
+use mathlib.Core.Path.{◌≡◌, refl, sym, ap}
+use mathlib.Core.Logic.{⊎_elim}
 use mathlib.Core.Bool.{Bool, true, false, not, ◌&&◌, ◌||◌, false≢true}
 use mathlib.Core.List.{List}
 use native.Mathlib.Omega.{arith}
 use native.Mathlib.Nat.{div-add-mod'}
-use borrow.Author.Tests.{leb-true, ltb-true, ltb-false, eqb-true, eq-eqb, ne_eqb}
-use lib.Dec.{leb, ltb, eqb}
+use borrow.Author.Tests.{leb-true, eqb-true, eq-eqb, ne_eqb}
+use lib.Dec.{eqb}
 use lib.ListN.{length, get_or}
 use lib.IntN.{ℤ, pos, negsuc, ◌+ℤ◌, ◌-ℤ◌}
 use lib.Signed.{le_z}
-use Rattle.wire_read.specs.Words.{word_at}
 use Rattle.wire_signed.specs.Signed.{above}
 use Rattle.wire_signed.proofs.Integers.{reach}
 use Rattle.sheet_geometry.specs.declared.Range.{Range}
-use Rattle.sheet_geometry.specs.declared.Rect.{Rect}
 use Rattle.sheet_records.specs.declared.Limits.{Limits}
-use Rattle.sheet_contents.specs.Contents.{identity_at, identity_count, formats_at, format_count, geometry_at, geometry_count, controls_at, control_count, driver_of, card_of, bus_of, control_at}
-use Rattle.sheet_records.specs.Records.{format_code, format_description, control_id, control_kind, control_name, limits_of, control_flags}
-use Rattle.sheet_geometry.specs.Geometry.{widths_of, heights_of, line_alignment, crop_bounds, crop_default, pixel_aspect}
-use Rattle.sheet_rules.specs.Rules.{has_zero, contents_ok, identity_ok, known_code, new_code, format_ok, formats_ok, range_ok, alignment_ok, bound_ok, inside_ok, bounds_ok, default_ok, aspect_ok, geometry_ok, on_grid, grid_ok, exactly, limits_ok, control_ok, rising_at, controls_ok, bodies_ok, good_sheet}
-use Rattle.sheet_rules.proofs.Truth.{both, either, denied, all_at, any_at}
+use Rattle.sheet_contents.specs.Contents.{identity_at, identity_count, formats_at, format_count, geometry_at, geometry_count, controls_at, control_count}
+use Rattle.sheet_rules.specs.Rules.{has_zero, contents_ok, range_ok, alignment_ok, bound_ok, inside_ok, on_grid, grid_ok, exactly, limits_ok}
+use Rattle.sheet_rules.proofs.Truth.{both, either, any_at}
 
 -- ---- the table of contents
 

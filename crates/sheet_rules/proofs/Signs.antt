@@ -1,14 +1,14 @@
 -- Tests on the signed number of a word, by its distance from -2^31. Assumes nothing.
-use Prim.Native.Nat.{ℕ, suc, ◌+◌, ◌-◌, ◌≤◌, ◌<◌, ◌^◌}
-use mathlib.Core.Path.{◌≡◌, refl, sym, ◌∙◌}
+use Prim.Native.Nat.{ℕ, suc, ◌+◌, ◌-◌, ◌<◌, ◌^◌}
+use mathlib.Core.Path.{◌≡◌, refl, sym}
 use mathlib.Core.Bool.{Bool, true, false}
 use native.Mathlib.Omega.{arith}
 use borrow.Author.Tests.{ltb-true, ltb-false, ne_eqb}
 use lib.Dec.{leb, ltb, eqb}
-use lib.IntN.{ℤ, pos, negsuc}
+use lib.IntN.{pos, negsuc}
 use lib.Signed.{le_z}
 use Rattle.wire_signed.specs.Signed.{signed, above}
-use Rattle.wire_signed.proofs.Integers.{under, word_under, above_order, signed_low, signed_high}
+use Rattle.wire_signed.proofs.Integers.{word_under, above_order, signed_low, signed_high}
 use Rattle.sheet_rules.specs.Rules.{exactly}
 
 -- two words

@@ -1,17 +1,17 @@
 -- What a test that passed says of its parts. Assumes nothing.
-use Prim.Native.Nat.{ℕ, zero, suc, ◌+◌, ◌≤◌, ◌<◌}
+use Prim.Native.Nat.{ℕ, zero, suc, ◌<◌}
 use mathlib.Core.Path.{◌≡◌, refl, sym, ap₂, ◌∙◌}
 use mathlib.Core.Logic.{◌⊎◌, inl, inr, ⊎_elim}
 use mathlib.Core.Bool.{Bool, true, false, not, ◌&&◌, ◌||◌, false≢true}
 use native.Mathlib.Omega.{arith}
 use native.Mathlib.Nat.{not-suc-le-zero}
-use borrow.Author.Tests.{eqb-true, ltb-true, ltb-false, eq-eqb}
-use lib.Dec.{ltb, eqb}
+use borrow.Author.Tests.{ltb-true, ltb-false}
+use lib.Dec.{ltb}
 use Rattle.sheet_rules.specs.Folds.{all_below, any_below}
 
 -- two tests are joined as what they say is joined
-infixl 35 _and_
-pub _and_ : {a b c d : Bool} → a ≡ b → c ≡ d → (a && c) ≡ (b && d)
+infixl 35 ◌and◌
+pub ◌and◌ : {a b c d : Bool} → a ≡ b → c ≡ d → (a && c) ≡ (b && d)
 p and q = ap₂ ◌&&◌ p q
 
 -- both parts of a conjunction

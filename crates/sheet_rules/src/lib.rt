@@ -1,4 +1,6 @@
 // The rules of a good device sheet, and the tests of single numbers and texts in it.
+#![tactic(auto)]
+
 mod grid;
 mod text;
 

@@ -13,7 +13,7 @@ use Rattle.stream_verdict.specs.declared.Verdict.{Verdict}
 use Rattle.stream_verdict.specs.declared.Verdict.TheVariants.{Running, Blank, Gaps, Complete}
 use Rattle.stream_history.specs.Calls.{World, opened}
 use Rattle.stream_history.specs.Paper.{Paper, blank, events}
-use Rattle.stream_history.specs.Claims.{_⇔_, paper_after, world_after, AddsUp, Numbers, handed_after, AllHandedOver, Verdicts}
+use Rattle.stream_history.specs.Claims.{◌⇔◌, paper_after, world_after, AddsUp, Numbers, handed_after, AllHandedOver, Verdicts}
 use Rattle.stream_history.proofs.Sound.{Sound, sound_blank}
 use Rattle.stream_history.proofs.Tied.{one_more_law}
 use Rattle.stream_history.proofs.Every.{Kept, kept, legal_events}

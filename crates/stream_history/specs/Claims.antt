@@ -32,8 +32,8 @@ abbrev pub slot_bytes : World → ℕ → ℕ → List ℕ
 slot_bytes w k n = take n (drop (slot_offset k w.size) w.memory)
 
 -- one exactly when the other
-infixl 20 _⇔_
-abbrev pub _⇔_ : Type 0 → Type 0 → Type 0
+infixl 20 ◌⇔◌
+abbrev pub ◌⇔◌ : Type 0 → Type 0 → Type 0
 A ⇔ B = (A → B) × (B → A)
 
 -- ---- a. every buffer is in exactly one of dequeued, incoming, outgoing

@@ -1,7 +1,7 @@
 -- The callees' tests, joined as in the definition. Assumes nothing.
 use mathlib.Core.Path.{ap, ◌∙◌}
 use Rattle.sheet_rules.specs.Rules.{formats_ok, controls_ok, bodies_ok}
-use Rattle.sheet_rules.proofs.Truth.{_and_}
+use Rattle.sheet_rules.proofs.Truth.{◌and◌}
 use borrow.Author.Rules.{rules}
 use Rattle.sheet_check.proofs.bodies_ok.Statement.{statement}
 use Rattle.sheet_check.proofs.bodies_ok.Tie as tie

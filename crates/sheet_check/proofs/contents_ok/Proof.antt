@@ -5,7 +5,7 @@ use lib.Dec.{eqb, leb}
 use lib.ListN.{length}
 use Rattle.sheet_rules.specs.Rules.{contents_ok}
 use Rattle.sheet_contents.specs.Contents.{identity_at, identity_count, formats_at, format_count, geometry_at, geometry_count, controls_at, control_count}
-use Rattle.sheet_rules.proofs.Truth.{_and_}
+use Rattle.sheet_rules.proofs.Truth.{◌and◌}
 use borrow.Author.Rules.{rules}
 use Rattle.sheet_check.proofs.contents_ok.Statement.{statement}
 use Rattle.sheet_check.proofs.contents_ok.Tie as tie

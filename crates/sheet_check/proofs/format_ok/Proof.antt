@@ -1,7 +1,7 @@
 -- The callees' tests, joined as in the definition. Assumes nothing.
 use mathlib.Core.Path.{ap, ◌∙◌}
 use Rattle.sheet_rules.specs.Rules.{has_zero, known_code, format_ok}
-use Rattle.sheet_rules.proofs.Truth.{_and_}
+use Rattle.sheet_rules.proofs.Truth.{◌and◌}
 use borrow.Author.Rules.{rules}
 use Rattle.sheet_check.proofs.format_ok.Statement.{statement}
 use Rattle.sheet_check.proofs.format_ok.Tie as tie

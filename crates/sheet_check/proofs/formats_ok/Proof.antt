@@ -7,7 +7,7 @@ use borrow.Author.Rules.{rules}
 use Rattle.sheet_rules.specs.Folds.{all_below}
 use Rattle.sheet_rules.specs.Rules.{formats_ok}
 use Rattle.sheet_rules.proofs.Folding.{turn, all_more}
-use Rattle.sheet_rules.proofs.Truth.{_and_}
+use Rattle.sheet_rules.proofs.Truth.{◌and◌}
 use Rattle.sheet_check.proofs.formats_ok.Statement.{statement}
 use Rattle.sheet_check.proofs.formats_ok.Tie as tie
 

@@ -4,7 +4,7 @@ use mathlib.Core.Path.{ap, ◌∙◌}
 use lib.ListN.{take, drop}
 use Rattle.sheet_rules.specs.Rules.{has_zero, identity_ok}
 use Rattle.sheet_contents.specs.Contents.{driver_of, card_of, bus_of, identity_at}
-use Rattle.sheet_rules.proofs.Truth.{_and_}
+use Rattle.sheet_rules.proofs.Truth.{◌and◌}
 use borrow.Author.Rules.{rules}
 use Rattle.sheet_check.proofs.identity_ok.Statement.{statement}
 use Rattle.sheet_check.proofs.identity_ok.Tie as tie

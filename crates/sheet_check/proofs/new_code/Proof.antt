@@ -9,7 +9,7 @@ use borrow.Author.Rules.{rules}
 use Rattle.sheet_rules.specs.Folds.{all_below}
 use Rattle.sheet_rules.specs.Rules.{new_code}
 use Rattle.sheet_rules.proofs.Folding.{turn, all_more}
-use Rattle.sheet_rules.proofs.Truth.{_and_}
+use Rattle.sheet_rules.proofs.Truth.{◌and◌}
 use Rattle.sheet_check.proofs.new_code.Statement.{statement}
 use Rattle.sheet_check.proofs.new_code.Tie as tie
 

@@ -1,0 +1,16 @@
+-- A step of 0 leads nowhere; whole steps cut out of a number are not above it; the rest is the lesser of two. Assumes nothing.
+use native.Mathlib.Omega.{arith}
+use Rattle.grid_rules.specs.Grid.{nearest_multiple, nearest_up_to}
+use Rattle.grid_rules.proofs.nearest.Goals as goal
+
+pub returns-then-step-eq0 : goal.returns-then-step-eq0
+unfolding nearest_up_to nearest_multiple
+returns-then-step-eq0 c = rw c.if-step-eq0.true (omega arith)
+
+pub returns-then-n-top : goal.returns-then-n-top
+unfolding nearest_up_to nearest_multiple
+returns-then-n-top c = rw (← c.minus-top.ensures, ← c.minus.ensures) (omega arith)
+
+pub returns-else-n-top : goal.returns-else-n-top
+unfolding nearest_up_to nearest_multiple
+returns-else-n-top c = rw (← c.minus-top.ensures, ← c.minus.ensures) (omega arith)

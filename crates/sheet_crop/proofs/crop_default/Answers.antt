@@ -1,0 +1,11 @@
+-- The rectangle at its place. Assumes nothing.
+use mathlib.Core.Path.{ap, ◌∙◌}
+use Prim.Native.Nat.{ℕ, ◌+◌}
+use Rattle.sheet_geometry.specs.Geometry.{rect_at, crop_default}
+use Rattle.sheet_crop.proofs.crop_default.Goals as goal
+
+pub returns : goal.returns
+unfolding crop_default
+returns c =
+    let s = c.args.s.now in
+    c.rect_at.ensures ∙ ap (λ (n : ℕ). rect_at s (n + 44)) c.geometry_at.ensures.0
