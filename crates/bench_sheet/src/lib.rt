@@ -1,4 +1,6 @@
 // The bench: a small good sheet, and the same with odd tops, for examples and runs of every layer.
+#![tactic(auto)]
+
 ghost use Rattle.std.specs.Prelude.{◌≡◌, true};
 ghost use Rattle.sheet_rules.specs.Rules.{good_sheet};
 ghost use Rattle.bench_sheet.specs.Bench.{bench_sheet, odd_sheet};

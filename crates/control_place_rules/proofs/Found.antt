@@ -1,6 +1,6 @@
 -- What the look-ups find on a good sheet. Assumes nothing.
-use Prim.Native.Nat.{ℕ, zero, suc, ◌+◌, ◌-◌, min, ◌≤◌, ◌<◌}
-use mathlib.Core.Path.{◌≡◌, refl, sym, ap, ◌∙◌}
+use Prim.Native.Nat.{ℕ, ◌≤◌, ◌<◌}
+use mathlib.Core.Path.{◌≡◌, refl, sym, ◌∙◌}
 use mathlib.Core.Bool.{Bool, true, false, false≢true}
 use mathlib.Core.List.{List}
 use native.Mathlib.Nat.{min-eq_left}
@@ -13,7 +13,7 @@ use Rattle.sheet_rules.specs.Rules.{good_sheet}
 use Rattle.sheet_rules.proofs.Good.{contents, ids_rise}
 use Rattle.control_place_rules.specs.First.{first_below}
 use Rattle.control_place_rules.specs.Find.{present, place_of, place_above}
-use Rattle.control_place_rules.proofs.Search.{first_within, first_passes, first_fails}
+use Rattle.control_place_rules.proofs.Search.{first_passes, first_fails}
 
 -- what is found has the id, on any sheet
 pub place_has_id : (s : List ℕ) (id : ℕ) → place_of s id < present s → control_id s (place_of s id) ≡ id

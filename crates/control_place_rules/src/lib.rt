@@ -1,4 +1,6 @@
 // Controls by their ids.
+#![tactic(auto)]
+
 ghost use Rattle.std.specs.Prelude.{◌≡◌};
 ghost use Rattle.control_place_rules.specs.Find.{present, place_of, place_above, queried_place};
 

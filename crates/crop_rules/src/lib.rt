@@ -1,4 +1,6 @@
 // A crop rectangle brought inside its bounds, for every rectangle and all bounds of signed 32-bit numbers.
+#![tactic(auto)]
+
 ghost use Rattle.std.specs.Prelude.{◌≡◌};
 ghost use Rattle.crop_rules.specs.Crop.{clamp_z, size_in, clamped_place, fields_apart, clamped, opening_crop};
 

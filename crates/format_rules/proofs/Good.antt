@@ -1,14 +1,12 @@
 -- The picture of a format that a good sheet allows: how large it is. Assumes nothing.
-use Prim.Native.Nat.{ℕ, zero, suc, ◌+◌, ◌-◌, ◌*◌, ◌/◌, ◌%◌, min, ◌≤◌, ◌<◌}
+use Prim.Native.Nat.{ℕ, ◌+◌, ◌*◌, ◌/◌, ◌%◌, ◌≤◌}
 use mathlib.Core.Path.{◌≡◌, refl, sym, ap, ◌∙◌}
-use mathlib.Core.Logic.{◌⊎◌, inl, inr, ⊎_elim}
+use mathlib.Core.Logic.{⊎_elim}
 use mathlib.Core.Bool.{Bool, true, false, cond, ◌||◌}
-use mathlib.Core.List.{List, [], ◌∷◌}
 use native.Mathlib.Omega.{arith}
-use native.Mathlib.Nat.{div-add-mod', mul-le-mul, mul-le-mul_right, mul_comm, mul_assoc, min-eq_left}
+use native.Mathlib.Nat.{mul-le-mul, mul-le-mul_right, mul_assoc, min-eq_left}
 use borrow.Author.Tests.{eqb-true}
 use lib.Dec.{eqb}
-use lib.ListN.{length, get_or}
 use Rattle.sheet_rules.proofs.Facts.{Alignment}
 use Rattle.sheet_rules.proofs.Truth.{either}
 use Rattle.format_rules.specs.declared.Format.{Format}

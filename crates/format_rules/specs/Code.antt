@@ -1,5 +1,5 @@
 -- The nine four-character codes, the first letter in the lowest byte.
-use Rattle.std.specs.Prelude.{ℕ, Bool, true, false, cond, ◌||◌, eqb}
+use Rattle.std.specs.Prelude.{ℕ, Bool, cond, ◌||◌, eqb}
 
 abbrev pub GREY : ℕ
 GREY = 0x59455247

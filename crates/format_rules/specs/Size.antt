@@ -1,5 +1,5 @@
 -- How large a picture is. Width and height count up to 8192 and the alignment up to 64: in a good sheet none is larger.
-use Rattle.std.specs.Prelude.{ℕ, ◌+◌, ◌-◌, ◌*◌, ◌/◌, min, Bool, true, false, cond}
+use Rattle.std.specs.Prelude.{ℕ, ◌+◌, ◌-◌, ◌*◌, ◌/◌, min, cond}
 use Rattle.format_rules.specs.declared.Format.{Format}
 use Rattle.format_rules.specs.Code.{bytes_per_pixel, half_chroma}
 

@@ -1,4 +1,6 @@
 // Picture formats: what each code means, and how large a picture is.
+#![tactic(auto)]
+
 mod code;
 mod layout;
 
@@ -7,7 +9,7 @@ pub use layout::{bytes_per_line, image_height, image_size};
 
 // What S_FMT sets and the device keeps; the other numbers of a picture format follow from it.
 #[repr(C)]
-#[derive(Drop)]
+#[derive(Clone, Copy)]
 pub struct Format {
     pub width: u32,
     pub height: u32,

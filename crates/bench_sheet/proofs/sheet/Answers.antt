@@ -3,12 +3,8 @@ use mathlib.Core.Path.{refl}
 use Rattle.wire_read.specs.Words.{le32, bytes_of}
 use Rattle.bench_sheet.specs.Bench.{bench_sheet}
 use Rattle.bench_sheet.proofs.Good.{bench_good}
-use Rattle.bench_sheet.proofs.sheet.Statement.{statement}
-use Rattle.bench_sheet.proofs.sheet.Tie as tie
+use Rattle.bench_sheet.proofs.sheet.Goals as goal
 
-returns : tie.Need-returns
+pub returns : goal.returns
 unfolding bench_sheet le32 bytes_of
 returns c = (refl, bench_good)
-
-pub sheet_spec : {M : Type 1} → statement M
-sheet_spec = tie.close (tie.spec returns)
