@@ -1,4 +1,6 @@
 // The bytes of answers about controls, stored over the argument from its start.
+#![tactic(auto)]
+
 ghost use Rattle.std.specs.Prelude.{◌≡◌};
 ghost use Rattle.std.proofs.lemmas.List.Edits.{sets};
 ghost use Rattle.control_replies.specs.Replies.{control_reply, value_reply};

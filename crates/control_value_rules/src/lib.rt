@@ -1,4 +1,6 @@
 // The values of controls, read and set. They are kept as the 32 bits that a client sees.
+#![tactic(auto)]
+
 ghost use Rattle.std.specs.Prelude.{◌≡◌};
 ghost use Rattle.control_value_rules.specs.Values.{reading_at, reading, ranged_at, setting_at, setting_of};
 

@@ -1,4 +1,6 @@
 // The bytes of answers about the crop, stored over the argument from its start.
+#![tactic(auto)]
+
 ghost use Rattle.std.specs.Prelude.{◌≡◌};
 ghost use Rattle.std.proofs.lemmas.List.Edits.{sets};
 ghost use Rattle.crop_replies.specs.Replies.{rect_words, crop_reply, crop_capability_reply};

@@ -1,4 +1,6 @@
 // The bytes of answers about the device and its formats, stored over the argument from its start. Reserved fields are zero.
+#![tactic(auto)]
+
 ghost use Rattle.std.specs.Prelude.{◌≡◌};
 ghost use Rattle.std.proofs.lemmas.List.Edits.{sets};
 ghost use Rattle.format_replies.specs.Replies.{capability_reply, description_reply};

@@ -1,5 +1,5 @@
 -- A block read: which blocks are taken, and what becomes of them.
-use Rattle.std.specs.Prelude.{ℕ, ◌+◌, ◌*◌, ◌-◌, ◌/◌, ◌%◌, ◌^◌, Bool, true, false, cond, ◌&&◌, ◌||◌, List, [], ◌∷◌, eqb, ltb, length, take, drop}
+use Rattle.std.specs.Prelude.{ℕ, ◌+◌, ◌*◌, ◌-◌, ◌^◌, Bool, true, false, cond, ◌&&◌, ◌||◌, List, [], ◌∷◌, eqb, ltb, length, take, drop}
 use Rattle.wire_read.specs.Words.{word_at}
 use Rattle.sheet_rules.specs.Folds.{all_below}
 use Rattle.service_rules.specs.Services.{has}
@@ -7,7 +7,7 @@ use Rattle.service_rules.specs.Negotiation.{count_below}
 use Rattle.ioctl_table.specs.Refusal.{errno_of}
 use Rattle.ioctl_table.specs.declared.refusals.Refusal.TheVariants.{BadBlock}
 use Rattle.ivtv_rules.specs.Lines.{good_line}
-use Rattle.ivtv_rules.specs.Block.{Lines, itv0, ITV0, records_of, block_length}
+use Rattle.ivtv_rules.specs.Block.{Lines, itv0, ITV0, records_of}
 
 -- two lists are the same
 unfoldable pub same : List ℕ → List ℕ → Bool

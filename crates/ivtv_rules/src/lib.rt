@@ -1,4 +1,6 @@
 // What a block of the embedded packing is: its definitions and their laws. Of functions there is one, which tells how long a block is.
+#![tactic(auto)]
+
 ghost use Rattle.std.specs.Prelude.{◌≡◌};
 ghost use Rattle.ivtv_rules.specs.Block.{block_length};
 

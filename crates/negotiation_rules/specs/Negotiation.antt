@@ -1,5 +1,5 @@
 -- What the device makes of a format that a client asks for.
-use Rattle.std.specs.Prelude.{ℕ, min, Bool, true, false, cond, List, eqb}
+use Rattle.std.specs.Prelude.{ℕ, min, Bool, cond, List, eqb}
 use Rattle.wire_read.specs.Words.{word_at}
 use Rattle.sheet_contents.specs.Contents.{format_count}
 use Rattle.sheet_records.specs.Records.{format_code}

@@ -1,4 +1,6 @@
 // The io size of caption lines.
+#![tactic(auto)]
+
 ghost use Rattle.std.specs.Prelude.{◌≡◌, cond, not, ◌≤◌, eqb};
 ghost use Rattle.service_rules.specs.Negotiation.{io_size};
 

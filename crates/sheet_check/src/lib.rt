@@ -1,4 +1,6 @@
 // Whether a slice is a good device sheet: its table of contents, its identity and formats, and all four bodies.
+#![tactic(auto)]
+
 ghost use Rattle.std.specs.Prelude.{◌≡◌};
 ghost use Rattle.sheet_rules.specs.Rules.{contents_ok, identity_ok, known_code, new_code, format_ok, formats_ok, bodies_ok, good_sheet};
 
