@@ -10,44 +10,44 @@ use Rattle.plane_rules.proofs.component_length.Goals as goal
 
 pub overflow_mul-result : goal.overflow_mul-result
 overflow_mul-result c =
-    record { fits = product_fits c.bytes_per_line-line.result c.image_height-height.result (omega (arith, line_small c)) (omega (arith, height_small c)) }
+    record { fits = product_fits c.bytes_per_line-line.result c.image_height-height.result (omega (arith, c.bytes_per_line-line.ensures, line_fits c.args.f c.args.alignment)) (omega (arith, c.image_height-height.ensures, height_fits c.args.f)) }
 
 pub overflow_mul-result-in-Luma : goal.overflow_mul-result-in-Luma
 overflow_mul-result-in-Luma c =
-    record { fits = product_fits c.bytes_per_line-line.result c.image_height-height.result (omega (arith, line_small c)) (omega (arith, height_small c)) }
+    record { fits = product_fits c.bytes_per_line-line.result c.image_height-height.result (omega (arith, c.bytes_per_line-line.ensures, line_fits c.args.f c.args.alignment)) (omega (arith, c.image_height-height.ensures, height_fits c.args.f)) }
 
 pub overflow_mul-result-in-Cb : goal.overflow_mul-result-in-Cb
 overflow_mul-result-in-Cb c =
-    record { fits = product_fits (c.bytes_per_line-line.result / 2) (c.image_height-height.result / 2) (omega (arith, line_small c)) (omega (arith, height_small c)) }
+    record { fits = product_fits (c.bytes_per_line-line.result / 2) (c.image_height-height.result / 2) (omega (arith, c.bytes_per_line-line.ensures, line_fits c.args.f c.args.alignment)) (omega (arith, c.image_height-height.ensures, height_fits c.args.f)) }
 
 pub overflow_mul-result-in-Cr : goal.overflow_mul-result-in-Cr
 overflow_mul-result-in-Cr c =
-    record { fits = product_fits (c.bytes_per_line-line.result / 2) (c.image_height-height.result / 2) (omega (arith, line_small c)) (omega (arith, height_small c)) }
+    record { fits = product_fits (c.bytes_per_line-line.result / 2) (c.image_height-height.result / 2) (omega (arith, c.bytes_per_line-line.ensures, line_fits c.args.f c.args.alignment)) (omega (arith, c.image_height-height.ensures, height_fits c.args.f)) }
 
 pub overflow_mul-result-in-CbCr : goal.overflow_mul-result-in-CbCr
 overflow_mul-result-in-CbCr c =
-    record { fits = product_fits c.bytes_per_line-line.result (c.image_height-height.result / 2) (omega (arith, line_small c)) (omega (arith, height_small c)) }
+    record { fits = product_fits c.bytes_per_line-line.result (c.image_height-height.result / 2) (omega (arith, c.bytes_per_line-line.ensures, line_fits c.args.f c.args.alignment)) (omega (arith, c.image_height-height.ensures, height_fits c.args.f)) }
 
 pub returns-in-Nothing : goal.returns-in-Nothing
 unfolding component_length
-returns-in-Nothing c = ap (component_length _ _) (sym c.enum_told-1.given.1)
+returns-in-Nothing c = ap (component_length _ _) (sym c.in-Nothing.is)
 
 pub returns-in-Packed : goal.returns-in-Packed
 unfolding component_length
-returns-in-Packed c = by_factors c (λ (l h : ℕ). l * h) ∙ ap (component_length _ _) (sym c.enum_told-in-Packed-1.given.1)
+returns-in-Packed c = ap₂ (λ (l h : ℕ). l * h) c.bytes_per_line-line.ensures c.image_height-height.ensures ∙ ap (component_length _ _) (sym c.in-Packed.is)
 
 pub returns-in-Luma : goal.returns-in-Luma
 unfolding component_length
-returns-in-Luma c = by_factors c (λ (l h : ℕ). l * h) ∙ ap (component_length _ _) (sym c.enum_told-in-Luma-1.given.1)
+returns-in-Luma c = ap₂ (λ (l h : ℕ). l * h) c.bytes_per_line-line.ensures c.image_height-height.ensures ∙ ap (component_length _ _) (sym c.in-Luma.is)
 
 pub returns-in-Cb : goal.returns-in-Cb
 unfolding component_length
-returns-in-Cb c = by_factors c (λ (l h : ℕ). l / 2 * (h / 2)) ∙ ap (component_length _ _) (sym c.enum_told-in-Cb-1.given.1)
+returns-in-Cb c = ap₂ (λ (l h : ℕ). l / 2 * (h / 2)) c.bytes_per_line-line.ensures c.image_height-height.ensures ∙ ap (component_length _ _) (sym c.in-Cb.is)
 
 pub returns-in-Cr : goal.returns-in-Cr
 unfolding component_length
-returns-in-Cr c = by_factors c (λ (l h : ℕ). l / 2 * (h / 2)) ∙ ap (component_length _ _) (sym c.enum_told-in-Cr-1.given.1)
+returns-in-Cr c = ap₂ (λ (l h : ℕ). l / 2 * (h / 2)) c.bytes_per_line-line.ensures c.image_height-height.ensures ∙ ap (component_length _ _) (sym c.in-Cr.is)
 
 pub returns-in-CbCr : goal.returns-in-CbCr
 unfolding component_length
-returns-in-CbCr c = by_factors c (λ (l h : ℕ). l * (h / 2)) ∙ ap (component_length _ _) (sym c.enum_told-in-CbCr-1.given.1)
+returns-in-CbCr c = ap₂ (λ (l h : ℕ). l * (h / 2)) c.bytes_per_line-line.ensures c.image_height-height.ensures ∙ ap (component_length _ _) (sym c.in-CbCr.is)

@@ -6,7 +6,8 @@ use lib.Dec.{eqb}
 use native.Mathlib.Omega.{arith}
 use borrow.Author.Tests.{eq-eqb, ne_eqb}
 use Rattle.format_rules.specs.declared.Format.{Format}
-use Rattle.plane_rules.specs.Planes.{component_length, plane_start, plane_length}
+use Rattle.plane_rules.specs.declared.Component.{Component}
+use Rattle.plane_rules.specs.Planes.{component_length, component_of, plane_start, plane_length}
 use Rattle.plane_rules.proofs.Lengths.{component_fits}
 use borrow.Author.Rules.{rules}
 use Rattle.plane_rules.proofs.plane_start.Goals as goal
@@ -20,8 +21,15 @@ pub returns-then-k-eq0 : goal.returns-then-k-eq0
 unfolding plane_start
 returns-then-k-eq0 c = rw (eq-eqb _ _ c.if-k-eq0.true)
 
+-- the length of a plane by its component
+length_by : (f : Format) (a k r : ℕ) (p : Component) → r ≡ component_length f a p → p ≡ component_of f.code k → r ≡ plane_length f a k
+unfolding plane_length
+length_by f a k r p e h = e ∙ ap (component_length _ _) h
+
 pub returns-then-k-eq1 : goal.returns-then-k-eq1
-returns-then-k-eq1 c = first_length c ∙ starts_by _ _ _ false true (ne_eqb _ _ c.if-k-eq0.false) (eq-eqb _ _ c.if-k-eq1.true)
+returns-then-k-eq1 c =
+    length_by c.args.f c.args.alignment 0 _ _ c.component_length-first.ensures c.plane_component.ensures
+    ∙ starts_by _ _ _ false true (ne_eqb _ _ c.if-k-eq0.false) (eq-eqb _ _ c.if-k-eq1.true)
 
 pub overflow_add-result : goal.overflow_add-result
 overflow_add-result c =
@@ -38,5 +46,9 @@ overflow_add-result c =
 
 pub returns : goal.returns
 returns c =
-    ap₂ ◌+◌ (first_length c) (second_length c)
+    let f = c.args.f in
+    let a = c.args.alignment in
+    ap₂ ◌+◌
+    (length_by f a 0 _ _ c.component_length-first.ensures c.plane_component.ensures)
+    (length_by f a 1 _ _ c.component_length.ensures c.plane_component-2.ensures)
     ∙ starts_by _ _ _ false false (ne_eqb _ _ c.if-k-eq0.false) (ne_eqb _ _ c.if-k-eq1.false)
