@@ -6,6 +6,8 @@
 //   a line's end, and k with the memory's length, make the stream anew; a and e put a run to counts that no list could reach: 4,294,967,294
 //   arrivals, and 9,223,372,036,854,775,805, each accepted and handed over
 // No contract here says more than that each function is safe and ends.
+#![tactic(auto)]
+
 use show_arrivals::Event;
 use stream_maps::Change;
 use stream_words::Words;

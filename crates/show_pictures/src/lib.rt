@@ -1,5 +1,6 @@
 // The bytes of pictures, and of captions. Those of a picture go by its number, which is part of its time too: so what stands in memory can be
 // held against the time that is told of it. No contract here says more than that each function is safe and ends.
+#![tactic(auto)]
 
 // Another picture, or the same one a line further on, has other bytes.
 fn byte(picture: usize, i: usize) -> u8 {
