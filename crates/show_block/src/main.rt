@@ -24,10 +24,8 @@ fn title(out: &mut impl Write, k: u32) -> io::Result<()> {
 // A number of four digits.
 fn number(table: &[u8], at: usize) -> u32 {
     let mut n: u32 = 0;
-    let mut i: usize = 0;
-    while i < 4 {
+    for i in 0..4 {
         n = n % 1000 * 10 + (wire_read::byte_at(wire_read::part(table, at, 4), i) % 16) as u32;
-        i += 1;
     }
     n
 }

@@ -69,10 +69,8 @@ fn call(s: &mut Words, memory: &[u8], c: u8, size: u32, a: &mut [u8]) -> u8 {
 
 // What became of the arrivals of the last run: five words, accepted, handed over, damaged, dropped, discarded. Of each count the lower 32 bits.
 fn record(s: &Words, a: &mut [u8]) {
-    let mut k: usize = 0;
-    while k < 5 {
+    for k in 0..5 {
         wire_store::put_word(a, k * 4, stream_words::low(s[stream_words::ACCEPTED + k]));
-        k += 1;
     }
 }
 

@@ -23,11 +23,9 @@ pub fn put_record(lines: &mut [u8], k: u32, service: u32, line: u32, load: u32) 
 
 // Teletext on all lines of both fields, the last one first.
 pub fn put_all(lines: &mut [u8]) {
-    let mut k: u32 = 0;
-    while k < 36 {
+    for k in 0..36 {
         let bit = 35 - k;
         put_record(lines, k, 1, bit / 18 * 100 + 6 + bit % 18, 1000 + bit);
-        k += 1;
     }
 }
 

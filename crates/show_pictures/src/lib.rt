@@ -9,10 +9,8 @@ fn byte(picture: usize, i: usize) -> u8 {
 
 // The space is filled with the bytes of the picture.
 pub fn fill(space: &mut [u8], picture: u32) {
-    let mut i: usize = 0;
-    while i < space.len() {
+    for i in 0..space.len() {
         space[i] = byte(picture as usize, i);
-        i += 1;
     }
 }
 
@@ -22,22 +20,18 @@ pub fn stands_at(memory: &[u8], at: usize, used: usize, picture: u32) -> bool {
     if part.len() != used {
         return false;
     }
-    let mut i: usize = 0;
-    while i < part.len() {
+    for i in 0..part.len() {
         if part[i] != byte(picture as usize, i) {
             return false;
         }
-        i += 1;
     }
     true
 }
 
 // Every word of a space tells its own place, up to the greatest frame of the bench.
 pub fn mark(space: &mut [u8]) {
-    let mut at: u32 = 0;
-    while at < 143360 {
-        wire_store::put_word(space, at as usize, at);
-        at += 4;
+    for k in 0..35840u32 {
+        wire_store::put_word(space, (k * 4) as usize, k * 4);
     }
 }
 
