@@ -27,7 +27,7 @@ pub const CAPTIONS: u32 = 6;
 // A device: the copy of its sheet, its setup, the values of its controls, its streams of pictures and of captions, and the services in force
 // on each sliced line.
 #[repr(C)]
-#[derive(Drop)]
+#[derive(Clone, Copy)]
 pub struct Device {
     pub sheet: Sheet,
     pub setup: SetupWords,

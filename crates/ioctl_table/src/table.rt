@@ -4,7 +4,7 @@ ghost use Rattle.ioctl_table.specs.Table.{request_of};
 ghost use Rattle.ioctl_word.specs.Word.{size_of};
 ghost use Rattle.ioctl_table.specs.declared.table.Call.TheVariants.{Unknown};
 
-#[derive(Drop)]
+#[derive(Clone, Copy)]
 pub enum Call {
     Unknown,
     Querycap,

@@ -15,7 +15,7 @@ pub struct Range {
 
 // v4l2_rect.
 #[repr(C)]
-#[derive(Drop)]
+#[derive(Clone, Copy)]
 pub struct Rect {
     pub left: i32,
     pub top: i32,

@@ -1,10 +1,15 @@
 // How the answer of an event is said, by the event's letter, from the words of its argument: the crate `show_calls` has the letters. No contract
 // here says more than that each function is safe and ends.
+#![tactic(auto)]
+
+use std::io;
+use std::io::Write;
 
 // What is answered: a line for each letter of a call, for the kinds 0 to 4 of what becomes of an arrival, for the verdicts 0 to 3,
 // and for the flags of a buffer that is mapped.
-fn told(letter: u8, a: &[u8]) {
+fn told(out: &mut impl Write, letter: u8, a: &[u8]) -> io::Result<()> {
     show_lines::told(
+        out,
         b"c, driver %s\x00, card %s\x10, bus %s\x30, version %x\x50, capabilities %x\x54\n\
         e, %c\x2c, %s\x0c, flags %d\x08\n\
         g, %c\x0c %d\x04x%d\x08 line %d\x14 size %d\x18\n\
@@ -40,7 +45,7 @@ fn told(letter: u8, a: &[u8]) {
         9, flags %d\x0c\n",
         letter,
         a,
-    );
+    )
 }
 
 // The letter of the answer: of captions it is that of their format, and that of the load.
@@ -59,23 +64,23 @@ fn letter(c: u8, a: &[u8]) -> u8 {
 }
 
 // Whether the picture that is handed over stands in memory at the offset that the answer tells; it goes by the second that it tells.
-fn picture(a: &[u8], memory: &[u8]) {
+fn picture(out: &mut impl Write, a: &[u8], memory: &[u8]) -> io::Result<()> {
     if show_pictures::stands_at(
         memory,
         wire_read::word_at(a, 52) as usize,
         wire_read::word_at(a, 8) as usize,
         wire_read::word_at(a, 20),
     ) {
-        show_text::text(b"intact");
+        show_text::text(out, b"intact")
     } else {
-        show_text::text(b"SPOILT");
+        show_text::text(out, b"SPOILT")
     }
 }
 
 // The load reading of the captions that are handed over: the first two bytes that the first line carries.
-fn load(a: &[u8], memory: &[u8]) {
+fn load(out: &mut impl Write, a: &[u8], memory: &[u8]) -> io::Result<()> {
     let line = wire_read::part(memory, wire_read::word_at(a, 52) as usize, 64);
-    show_text::long((wire_read::word_at(line, 16) % 65536) as u64);
+    show_text::long(out, (wire_read::word_at(line, 16) % 65536) as u64)
 }
 
 // Whether a buffer that is handed in or over is told as mapped: only then are its flags said.
@@ -87,29 +92,44 @@ fn mapped(c: u8, a: &[u8]) -> bool {
 }
 
 // The number that came back, and the answer of an accepted call, with the memories of pictures and of captions.
-fn called(c: u8, number: u32, a: &[u8], pictures: &[u8], captions: &[u8]) {
-    show_text::number(b": ", number);
+fn called(
+    out: &mut impl Write,
+    c: u8,
+    number: u32,
+    a: &[u8],
+    pictures: &[u8],
+    captions: &[u8],
+) -> io::Result<()> {
+    show_text::number(out, b": ", number)?;
     if number != 0 {
-        return;
+        return Ok(());
     }
     let answer = letter(c, a);
-    told(answer, a);
+    told(out, answer, a)?;
     match answer {
-        b'd' => picture(a, pictures),
-        b'L' => load(a, captions),
+        b'd' => picture(out, a, pictures)?,
+        b'L' => load(out, a, captions)?,
         _ => (),
     }
     if mapped(c, a) {
-        told(b'9', a);
+        told(out, b'9', a)?;
     }
+    Ok(())
 }
 
-pub fn answered(c: u8, number: u32, a: &[u8], pictures: &[u8], captions: &[u8]) {
+pub fn answered(
+    out: &mut impl Write,
+    c: u8,
+    number: u32,
+    a: &[u8],
+    pictures: &[u8],
+    captions: &[u8],
+) -> io::Result<()> {
     match c {
         b'#' => (),
-        b'w' | b'h' | b'z' | b'a' | b'A' | b'i' => told((number % 5 + 48) as u8, a),
-        b'v' => told((number % 4 + 53) as u8, a),
-        _ => called(c, number, a, pictures, captions),
+        b'w' | b'h' | b'z' | b'a' | b'A' | b'i' => told(out, (number % 5 + 48) as u8, a)?,
+        b'v' => told(out, (number % 4 + 53) as u8, a)?,
+        _ => called(out, c, number, a, pictures, captions)?,
     }
-    show_text::letter(b'\n');
+    show_text::letter(out, b'\n')
 }

@@ -2,11 +2,13 @@
 //   w a whole frame arrives, u one byte short, o one byte long, m a whole one at a time that is none, l with another memory,
 //   p one byte short but called whole, g one byte long but called whole
 // No contract here says more than that each function is safe and ends.
+#![tactic(auto)]
+
 use stream_words::{Time, Words};
 
 // An event on a stream: its letter and its number, which is the microseconds of an arrival; the size of a frame, the seconds on the clock, and
 // how much of the memory there is.
-#[derive(Drop)]
+#[derive(Clone, Copy)]
 pub struct Event {
     pub letter: u8,
     pub number: u32,

@@ -1,9 +1,14 @@
 // Load readings inside the film: caption lines packed into a block and read back, and what is refused. Each call is a line, with the number
 // that it gives back; behind it stand the first words of the block, byte by byte, or a line for each record. What is done is a table.
+#![tactic(auto)]
+
+use std::io;
+use std::io::{BufWriter, Write};
 
 // What is said before a part of the table.
-fn title(k: u32) {
+fn title(out: &mut impl Write, k: u32) -> io::Result<()> {
     show_lines::told(
+        out,
         b"1A load reading on line 21\n\
         2Both fields, the second given first\n\
         3Refused: an output that is too long, a line twice, then a field, a line and a service that do not exist\n\
@@ -12,26 +17,24 @@ fn title(k: u32) {
         6One line; refused: fill bytes, a byte beyond the payload, another opening\n",
         (48 + k % 10) as u8,
         b"",
-    );
-    show_text::letter(b'\n');
+    )?;
+    show_text::letter(out, b'\n')
 }
 
 // A number of four digits.
 fn number(table: &[u8], at: usize) -> u32 {
     let mut n: u32 = 0;
-    let mut i: usize = 0;
-    while i < 4 {
+    for i in 0..4 {
         n = n % 1000 * 10 + (wire_read::byte_at(wire_read::part(table, at, 4), i) % 16) as u32;
-        i += 1;
     }
     n
 }
 
 // A row about records alone, done.
-fn prepared(kind: u8, row: &[u8], lines: &mut [u8]) {
+fn prepared(out: &mut impl Write, kind: u8, row: &[u8], lines: &mut [u8]) -> io::Result<()> {
     let a = number(row, 2);
     match kind {
-        b't' => title(a),
+        b't' => title(out, a)?,
         b'r' => show_packing::put_record(
             lines,
             a,
@@ -39,45 +42,59 @@ fn prepared(kind: u8, row: &[u8], lines: &mut [u8]) {
             number(row, 12),
             number(row, 17),
         ),
-        b's' => show_packing::said(lines, a),
+        b's' => show_packing::said(out, lines, a)?,
         _ => show_packing::put_all(lines),
     }
+    Ok(())
 }
 
 // A row of the table, done.
-fn done(row: &[u8], lines: &mut [u8], block: &mut [u8]) {
+fn done(out: &mut impl Write, row: &[u8], lines: &mut [u8], block: &mut [u8]) -> io::Result<()> {
     let kind = wire_read::byte_at(row, 0);
     match kind {
         b'p' => show_packing::packed(
+            out,
             lines,
             number(row, 2),
             block,
             number(row, 7) as usize,
             number(row, 12),
-        ),
-        b'u' => show_packing::read_back(block, number(row, 2) as usize, lines, number(row, 7)),
+        )?,
+        b'u' => show_packing::read_back(
+            out,
+            block,
+            number(row, 2) as usize,
+            lines,
+            number(row, 7),
+        )?,
         b'b' => show_packing::put_byte(block, number(row, 2) as usize, number(row, 7)),
-        _ => prepared(kind, row, lines),
+        _ => prepared(out, kind, row, lines)?,
     }
+    Ok(())
 }
 
 // Each row of the table has 22 letters.
-fn played(table: &[u8], lines: &mut [u8], block: &mut [u8]) {
-    let n = table.len() / 22;
-    let mut i: usize = 0;
-    while i < n {
-        done(wire_read::part(table, 22 * i, 22), lines, block);
-        i += 1;
+fn played(
+    out: &mut impl Write,
+    table: &[u8],
+    lines: &mut [u8],
+    block: &mut [u8],
+) -> io::Result<()> {
+    for i in 0..table.len() / 22 {
+        done(out, wire_read::part(table, 22 * i, 22), lines, block)?;
     }
+    Ok(())
 }
 
 // Each row: what is done, and numbers.
 //   t a title   r a record: its place, service, field and line (as 100 field + line), load   s a record shown: its place   a a record on each of the 36 lines
 //   p packed: records, bytes of the block, words of it shown   u read back: bytes of the block, records   b a byte of the block: its place, its value
-fn main() {
+fn main(rt: HostRuntime) -> io::Result<()> {
+    let mut out = BufWriter::new(rt.alloc(), io::writer(&rt))?;
     let mut lines = [0u8; 2304];
     let mut block = [0u8; 1552];
     played(
+        &mut out,
         b"t 0001                \
         r 0000 4096 0021 0250 \
         s 0000                \
@@ -119,5 +136,6 @@ fn main() {
         u 0055 0001           ",
         &mut lines,
         &mut block,
-    );
+    )?;
+    out.flush()
 }

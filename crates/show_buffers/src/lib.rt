@@ -6,6 +6,8 @@
 //   a line's end, and k with the memory's length, make the stream anew; a and e put a run to counts that no list could reach: 4,294,967,294
 //   arrivals, and 9,223,372,036,854,775,805, each accepted and handed over
 // No contract here says more than that each function is safe and ends.
+#![tactic(auto)]
+
 use show_arrivals::Event;
 use stream_maps::Change;
 use stream_words::Words;
@@ -67,10 +69,8 @@ fn call(s: &mut Words, memory: &[u8], c: u8, size: u32, a: &mut [u8]) -> u8 {
 
 // What became of the arrivals of the last run: five words, accepted, handed over, damaged, dropped, discarded. Of each count the lower 32 bits.
 fn record(s: &Words, a: &mut [u8]) {
-    let mut k: usize = 0;
-    while k < 5 {
+    for k in 0..5 {
         wire_store::put_word(a, k * 4, stream_words::low(s[stream_words::ACCEPTED + k]));
-        k += 1;
     }
 }
 

@@ -14,6 +14,8 @@
 //   p a plane of a frame, with the bytes of the frame and the number of the plane
 //   # what a client has counted that takes every dequeue for a frame
 // No contract here says more than that each function is safe and ends.
+#![tactic(auto)]
+
 mod asking;
 mod saying;
 

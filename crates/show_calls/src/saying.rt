@@ -1,8 +1,11 @@
 // How an event is said, from the words of its argument.
 use crate::asking;
+use std::io;
+use std::io::Write;
 
-fn said(c: u8, a: &[u8]) {
+fn said(out: &mut impl Write, c: u8, a: &[u8]) -> io::Result<()> {
     show_lines::told(
+        out,
         b"Bopen, bench sheet, memory of %d\x00 bytes\n\
         Oopen, bench sheet, memories of %d\x00 and %d\x0c bytes\n\
         Iopen, sheet with odd tops, memory of %d\x00 bytes\n\
@@ -50,7 +53,7 @@ fn said(c: u8, a: &[u8]) {
         #the client counts %d\x00 frames\n",
         c,
         a,
-    );
+    )
 }
 
 // Whether a call that can be about either stream is about captions.
@@ -62,12 +65,12 @@ fn of_captions(c: u8, x: u32) -> bool {
 }
 
 // What is asked, by two numbers: it is written as the argument, and said.
-pub fn asked(c: u8, x: u32, n: u32, a: &mut [u8]) {
+pub fn asked(out: &mut impl Write, c: u8, x: u32, n: u32, a: &mut [u8]) -> io::Result<()> {
     let words = asking::argument(c, x, n);
     wire_store::put_words(a, 0, &words);
     wire_store::put_word(a, 100, asking::last(c));
     if of_captions(c, x) {
-        show_text::text(b"captions, ");
+        show_text::text(out, b"captions, ")?;
     }
-    said(c, a);
+    said(out, c, a)
 }

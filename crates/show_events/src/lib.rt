@@ -1,8 +1,12 @@
 // An event on the bench's device: it is said, done, and its answer said. The device goes in whole and comes back whole. No contract here says
 // more than that the functions are safe and end.
+#![tactic(auto)]
+
 use device_opening::Made;
 use device_state::Device;
 use show_lists::Reading;
+use std::io;
+use std::io::Write;
 
 // The picture memory, as long as that of the bench. It is lent with its length in its type: an array just made is too long for the checker
 // to count.
@@ -27,11 +31,17 @@ fn done(d: Device, pictures: &mut Memory, captions: &mut Captions, c: u8, a: &mu
 }
 
 // An event: what it asks is said, then done, and what it is answered is said.
-pub fn event(d: Device, pictures: &mut Memory, captions: &mut Captions, e: Reading) -> Device {
+pub fn event(
+    out: &mut impl Write,
+    d: Device,
+    pictures: &mut Memory,
+    captions: &mut Captions,
+    e: Reading,
+) -> io::Result<Device> {
     let c = e.letter;
     let mut a = [0u8; 204];
-    show_calls::asked(c, e.first, e.number, &mut a);
+    show_calls::asked(out, c, e.first, e.number, &mut a)?;
     let made = done(d, pictures, captions, c, &mut a);
-    show_answers::answered(c, made.number, &a, pictures, captions);
-    made.device
+    show_answers::answered(out, c, made.number, &a, pictures, captions)?;
+    Ok(made.device)
 }

@@ -1,10 +1,17 @@
 // The whole capture device on the bench sheet: each call, what it is answered, and what can be said of the film. What is printed of
 // an answer is read from the bytes of its argument. The crate `show_calls` has the letter of each event and how it is said, `show_answers` how
 // its answer is, `show_lists` how lists of events are read.
-fn main() {
+#![tactic(auto)]
+
+use std::io;
+use std::io::{BufWriter, Write};
+
+fn main(rt: HostRuntime) -> io::Result<()> {
+    let mut out = BufWriter::new(rt.alloc(), io::writer(&rt))?;
     let mut pictures = [0u8; 1048576];
     let mut captions = [0u8; 8192];
     show_tables::table(
+        &mut out,
         &mut pictures,
         &mut captions,
         b"1. Opening\n\
@@ -53,5 +60,6 @@ fn main() {
             2m 143360x143360M 2m 2n 1n 4r 2n 4r 0b 1b 2b 3b\n\
         6b. The maps of captions are their own\n\
             1048576x8192O 300x225f 10r 4096F 6x10r 6x1m 6x1b 1b 0r 10r 6x0r 0m 6x1n 6x0r 0r 0n 0r",
-    );
+    )?;
+    out.flush()
 }

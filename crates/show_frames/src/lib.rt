@@ -1,6 +1,8 @@
 // A device and its film: frames arrive, the verdict, planes. The device goes in whole and comes back whole, with the number that a
 // caller is given. What is asked stands in the words of an argument, and so does the answer. No contract here says more than that each
 // function is safe and ends.
+#![tactic(auto)]
+
 use device_opening::Made;
 use device_state::{Device, SetupWords};
 use service_rules::Lines;

@@ -1,10 +1,14 @@
 // A table of lists, read byte by byte: a line with the title of a list, a line with its events. An event is a letter, with a number right
 // before it where it has one, or two with an x between them; a / is a new line. A title is said as it stands. No contract here says more than
 // that each function is safe and ends.
+#![tactic(auto)]
+
+use std::io;
+use std::io::Write;
 
 // How far a table is read: whether in a title; the letter of the event that just ended, 0 where none did, and a line's end where the list
 // did; its two numbers, of 32 bits each, and whether the one that is read is below zero; and how many events d the list has had.
-#[derive(Drop)]
+#[derive(Clone, Copy)]
 pub struct Reading {
     pub title: bool,
     pub letter: u8,
@@ -67,27 +71,27 @@ fn event(r: Reading, c: u8) -> Reading {
     next
 }
 
-// The next byte of a table.
-pub fn after(r: Reading, c: u8) -> Reading {
+// The next byte of a table. The bytes of a title go to the writer.
+pub fn after(out: &mut impl Write, r: Reading, c: u8) -> io::Result<Reading> {
     if r.title {
-        show_text::letter(c);
-        return begun(c != b'\n', 0, 0);
+        show_text::letter(out, c)?;
+        return Ok(begun(c != b'\n', 0, 0));
     }
     match c {
         b'\n' => {
-            show_text::letter(c);
-            begun(true, c, 0)
+            show_text::letter(out, c)?;
+            Ok(begun(true, c, 0))
         }
         b'/' => {
-            show_text::letter(b'\n');
-            begun(false, 0, r.counted)
+            show_text::letter(out, b'\n')?;
+            Ok(begun(false, 0, r.counted))
         }
-        b' ' => begun(false, 0, r.counted),
+        b' ' => Ok(begun(false, 0, r.counted)),
         _ => {
             if r.letter == 0 {
-                event(r, c)
+                Ok(event(r, c))
             } else {
-                event(begun(false, 0, r.counted), c)
+                Ok(event(begun(false, 0, r.counted), c))
             }
         }
     }

@@ -1,5 +1,7 @@
 // A client maps a buffer of a device, or unmaps it. The device goes in whole and comes back whole, with the number that the client is given. No
 // contract here says more than that each function is safe and ends.
+#![tactic(auto)]
+
 use device_opening::Made;
 use device_state::Device;
 

@@ -1,4 +1,6 @@
 // The bench's device, opened with its sheet as it is, damaged, or with odd tops. No contract here says more than that the function is safe and ends.
+#![tactic(auto)]
+
 use device_opening::Made;
 
 // The bench sheet, or the one with odd tops.

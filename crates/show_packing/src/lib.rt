@@ -1,5 +1,9 @@
 // Caption lines packed into a block and read back, and said: each call is a line, with the number that it gives back. No contract here says more than
 // that each function is safe and ends.
+#![tactic(auto)]
+
+use std::io;
+use std::io::Write;
 
 // A record: a line, and a load in its payload. What is reserved, and what lies beyond the payload, is filled with ones.
 pub fn put_record(lines: &mut [u8], k: u32, service: u32, line: u32, load: u32) {
@@ -19,55 +23,59 @@ pub fn put_record(lines: &mut [u8], k: u32, service: u32, line: u32, load: u32) 
 
 // Teletext on all lines of both fields, the last one first.
 pub fn put_all(lines: &mut [u8]) {
-    let mut k: u32 = 0;
-    while k < 36 {
+    for k in 0..36 {
         let bit = 35 - k;
         put_record(lines, k, 1, bit / 18 * 100 + 6 + bit % 18, 1000 + bit);
-        k += 1;
     }
 }
 
 // The k-th record, in words.
-pub fn said(lines: &[u8], k: u32) {
+pub fn said(out: &mut impl Write, lines: &[u8], k: u32) -> io::Result<()> {
     let r = wire_read::part(lines, (k % 36 * 64) as usize, 64);
     show_lines::told(
+        out,
         b"r    service %x\x00, field %d\x04, line %d\x08, reserved %d\x0c, load and what is behind it %x\x10\n",
         b'r',
         r,
-    );
-    show_text::letter(b'\n');
+    )?;
+    show_text::letter(out, b'\n')
 }
 
 // The bytes of a word, the lowest first.
-fn word(w: u32) {
-    show_text::byte((w % 256) as u8);
-    show_text::byte((w / 256 % 256) as u8);
-    show_text::byte((w / 65536 % 256) as u8);
-    show_text::byte((w / 16777216 % 256) as u8);
+fn word(out: &mut impl Write, w: u32) -> io::Result<()> {
+    show_text::byte(out, (w % 256) as u8)?;
+    show_text::byte(out, (w / 256 % 256) as u8)?;
+    show_text::byte(out, (w / 65536 % 256) as u8)?;
+    show_text::byte(out, (w / 16777216 % 256) as u8)
 }
 
 // The first words of a block.
-fn words(block: &[u8], n: u32) {
-    let mut i: u32 = 0;
-    while i < n % 16 {
-        show_text::letter(b' ');
-        word(wire_read::word_at(block, (i * 4) as usize));
-        i += 1;
+fn words(out: &mut impl Write, block: &[u8], n: u32) -> io::Result<()> {
+    for i in 0..n % 16 {
+        show_text::letter(out, b' ')?;
+        word(out, wire_read::word_at(block, (i * 4) as usize))?;
     }
-    show_text::letter(b'\n');
+    show_text::letter(out, b'\n')
 }
 
 // n records packed into so many bytes, and some words of these shown.
-pub fn packed(lines: &[u8], n: u32, block: &mut [u8], room: usize, shown: u32) {
+pub fn packed(
+    out: &mut impl Write,
+    lines: &[u8],
+    n: u32,
+    block: &mut [u8],
+    room: usize,
+    shown: u32,
+) -> io::Result<()> {
     if block.len() < room {
-        return;
+        return Ok(());
     }
     let number = ivtv::pack(
         wire_read::part(lines, 0, (n % 37 * 64) as usize),
         &mut block[..room],
     );
-    show_lines::line(b"  pack of %d: %d", &[n, number]);
-    words(block, shown);
+    show_lines::line(out, b"  pack of %d: %d", &[n, number])?;
+    words(out, block, shown)
 }
 
 // A block read into so many bytes of lines.
@@ -79,19 +87,26 @@ fn read_into(block: &[u8], lines: &mut [u8], room: usize) -> u32 {
 }
 
 // A block of so many bytes read into n records, and up to two of these shown.
-pub fn read_back(block: &[u8], length: usize, lines: &mut [u8], n: u32) {
+pub fn read_back(
+    out: &mut impl Write,
+    block: &[u8],
+    length: usize,
+    lines: &mut [u8],
+    n: u32,
+) -> io::Result<()> {
     let number = read_into(
         wire_read::part(block, 0, length),
         lines,
         (n % 37 * 64) as usize,
     );
-    show_lines::line(b"  unpack of %d: %d\n", &[n, number]);
+    show_lines::line(out, b"  unpack of %d: %d\n", &[n, number])?;
     if 0 < n {
-        said(lines, 0);
+        said(out, lines, 0)?;
     }
     if 1 < n {
-        said(lines, 1);
+        said(out, lines, 1)?;
     }
+    Ok(())
 }
 
 // A byte of a block, changed.

@@ -1,5 +1,6 @@
 // The bytes of pictures, and of captions. Those of a picture go by its number, which is part of its time too: so what stands in memory can be
 // held against the time that is told of it. No contract here says more than that each function is safe and ends.
+#![tactic(auto)]
 
 // Another picture, or the same one a line further on, has other bytes.
 fn byte(picture: usize, i: usize) -> u8 {
@@ -8,10 +9,8 @@ fn byte(picture: usize, i: usize) -> u8 {
 
 // The space is filled with the bytes of the picture.
 pub fn fill(space: &mut [u8], picture: u32) {
-    let mut i: usize = 0;
-    while i < space.len() {
+    for i in 0..space.len() {
         space[i] = byte(picture as usize, i);
-        i += 1;
     }
 }
 
@@ -21,22 +20,18 @@ pub fn stands_at(memory: &[u8], at: usize, used: usize, picture: u32) -> bool {
     if part.len() != used {
         return false;
     }
-    let mut i: usize = 0;
-    while i < part.len() {
+    for i in 0..part.len() {
         if part[i] != byte(picture as usize, i) {
             return false;
         }
-        i += 1;
     }
     true
 }
 
 // Every word of a space tells its own place, up to the greatest frame of the bench.
 pub fn mark(space: &mut [u8]) {
-    let mut at: u32 = 0;
-    while at < 143360 {
-        wire_store::put_word(space, at as usize, at);
-        at += 4;
+    for k in 0..35840u32 {
+        wire_store::put_word(space, (k * 4) as usize, k * 4);
     }
 }
 

@@ -1,8 +1,12 @@
 // The planes of a YU12 frame of 304x224, said a line to a plane. Each word of the frame tells its own place, so that a plane's first word
 // tells where it starts; the second word of each plane is its name. No contract here says more than that each function is safe and ends.
-use format_rules::Format;
+#![tactic(auto)]
 
-fn one(alignment: u32, frame: &[u8], k: u32) {
+use format_rules::Format;
+use std::io;
+use std::io::Write;
+
+fn one(out: &mut impl Write, alignment: u32, frame: &[u8], k: u32) -> io::Result<()> {
     let f = Format {
         width: 304,
         height: 224,
@@ -18,7 +22,7 @@ fn one(alignment: u32, frame: &[u8], k: u32) {
         wire_read::word_at(p, 0),
         (p.len() % 4294967296) as u32,
     ];
-    show_lines::line(b"plane %d of %d: %d, %cfrom %d, length %d\n", &numbers);
+    show_lines::line(out, b"plane %d of %d: %d, %cfrom %d, length %d\n", &numbers)
 }
 
 // Y, Cb and Cr, each with a space after it.
@@ -30,16 +34,16 @@ fn named(frame: &mut [u8; 107520]) {
 }
 
 // All of a frame, one that it has not, and one of a frame that is a byte short.
-fn all(alignment: u32, frame: &[u8; 107520]) {
-    one(alignment, frame, 0);
-    one(alignment, frame, 1);
-    one(alignment, frame, 2);
-    one(alignment, frame, 3);
-    one(alignment, wire_read::part(frame, 0, 107519), 0);
+fn all(out: &mut impl Write, alignment: u32, frame: &[u8; 107520]) -> io::Result<()> {
+    one(out, alignment, frame, 0)?;
+    one(out, alignment, frame, 1)?;
+    one(out, alignment, frame, 2)?;
+    one(out, alignment, frame, 3)?;
+    one(out, alignment, wire_read::part(frame, 0, 107519), 0)
 }
 
-pub fn planes(alignment: u32) {
+pub fn planes(out: &mut impl Write, alignment: u32) -> io::Result<()> {
     let mut frame = [0u8; 107520];
     named(&mut frame);
-    all(alignment, &frame);
+    all(out, alignment, &frame)
 }

@@ -1,5 +1,7 @@
 // A request to a device, which goes in whole and comes back whole, with the number that a caller is given. No contract here says more than
 // that the function is safe and ends.
+#![tactic(auto)]
+
 use device_opening::Made;
 use device_state::Device;
 

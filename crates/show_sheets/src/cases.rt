@@ -1,4 +1,6 @@
 // A table of cases, one to a line: a name, a colon, changes to the bench sheet, how many bytes are looked at. The table says more.
+use std::io;
+use std::io::Write;
 
 // The bench sheet, with zeros behind it up to n.
 fn renew(space: &mut [u8], n: u32) {
@@ -9,31 +11,31 @@ fn renew(space: &mut [u8], n: u32) {
 }
 
 // What the check says of the first n bytes.
-fn verdict(space: &[u8], n: u32) {
+fn verdict(out: &mut impl Write, space: &[u8], n: u32) -> io::Result<()> {
     if sheet_check::good_sheet(wire_read::part(space, 0, n as usize)) {
-        io::write_all(libc::STDOUT_FILENO, b": good\n");
+        out.write_all(b": good\n")
     } else {
-        io::write_all(libc::STDOUT_FILENO, b": refused\n");
+        out.write_all(b": refused\n")
     }
 }
 
 // A sign does something with the number before it. The answer is where the next word goes.
-fn sign(space: &mut [u8], place: u32, number: u32, b: u8) -> u32 {
+fn sign(out: &mut impl Write, space: &mut [u8], place: u32, number: u32, b: u8) -> io::Result<u32> {
     match b {
-        b'=' => number,
+        b'=' => Ok(number),
         b';' => {
             wire_store::put_word(space, place as usize, number);
-            place % 4096 + 4
+            Ok(place % 4096 + 4)
         }
         b'?' => {
-            verdict(space, number);
-            place
+            verdict(out, space, number)?;
+            Ok(place)
         }
         b'\n' => {
             renew(space, number);
-            place
+            Ok(place)
         }
-        _ => place,
+        _ => Ok(place),
     }
 }
 
@@ -55,30 +57,28 @@ fn number_after(n: u32, b: u8) -> u32 {
 }
 
 // A byte of a name is said as it stands. Whether the name is behind: its colon ends it.
-fn name(b: u8) -> bool {
+fn name(out: &mut impl Write, b: u8) -> io::Result<bool> {
     if b == b':' {
-        return true;
+        return Ok(true);
     }
     let t = [b];
-    io::write_all(libc::STDOUT_FILENO, &t);
-    false
+    out.write_all(&t)?;
+    Ok(false)
 }
 
 // The lines of a table, one after the other. The first of them is no case: the sheet is renewed at its end.
-pub(crate) fn table(space: &mut [u8], lines: &[u8]) {
+pub(crate) fn table(out: &mut impl Write, space: &mut [u8], lines: &[u8]) -> io::Result<()> {
     let mut named = true;
     let mut number: u32 = 0;
     let mut place: u32 = 0;
-    let mut i: usize = 0;
-    while i < lines.len() {
-        let b = lines[i];
-        i += 1;
+    for b in lines {
         if named {
-            place = sign(space, place, number, b);
-            number = number_after(number, b);
-            named = b != b'\n';
+            place = sign(out, space, place, number, *b)?;
+            number = number_after(number, *b);
+            named = *b != b'\n';
         } else {
-            named = name(b);
+            named = name(out, *b)?;
         }
     }
+    Ok(())
 }

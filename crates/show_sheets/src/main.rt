@@ -1,11 +1,17 @@
 // Sheets that break one rule each, and good ones: what the check says of each, a line to a sheet. The table of them is the standard
 // input, and says how it is read.
+#![tactic(auto)]
+
 mod cases;
 
-fn main() {
-    let mut text = io::large_buffer();
-    let lines: &mut [u8] = &mut text;
-    let n = io::read_full(libc::STDIN_FILENO, lines);
+use std::io;
+use std::io::{BufWriter, Read, Write};
+
+fn main(rt: HostRuntime) -> io::Result<()> {
+    let mut lines = Vec::new(rt.alloc());
+    rt.reader().read_to_end(&mut lines)?;
+    let mut out = BufWriter::new(rt.alloc(), io::writer(&rt))?;
     let mut space = [0u8; 3000];
-    cases::table(&mut space, wire_read::part(lines, 0, n));
+    cases::table(&mut out, &mut space, &lines)?;
+    out.flush()
 }

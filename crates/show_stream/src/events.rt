@@ -3,6 +3,8 @@
 //   z another frame size, c another second on the clock, k another length of the memory, at the start of a list
 use crate::items;
 use show_arrivals::Event;
+use std::io;
+use std::io::Write;
 use stream_words::Words;
 
 // The picture memory has two slots more than there are buffers at most. It is lent with its length in its type: an array just made is too
@@ -46,17 +48,17 @@ fn done(s: &mut Words, memory: &mut Memory, e: Event, a: &mut [u8]) -> u8 {
 
 // What an event asks is said, and then what it is answered. An argument has its number first, and the one kind of memory where REQBUFS has
 // it and where a buffer has it.
-fn event(s: &mut Words, memory: &mut Memory, e: Event) {
+fn event(out: &mut impl Write, s: &mut Words, memory: &mut Memory, e: Event) -> io::Result<()> {
     let mut a = [0u8; 68];
     wire_store::put_words(&mut a, 0, &[e.number, 1, 1]);
     wire_store::put_word(&mut a, 48, 1);
-    items::told(e.letter, &a);
+    items::told(out, e.letter, &a)?;
     let answer = done(s, memory, e, &mut a);
-    items::told(answer, &a);
+    items::told(out, answer, &a)
 }
 
 // The lists of a table, one after the other. A list has a stream of its own.
-pub(crate) fn table(memory: &mut Memory, lists: &[u8]) {
+pub(crate) fn table(out: &mut impl Write, memory: &mut Memory, lists: &[u8]) -> io::Result<()> {
     let mut s = stream_run::fresh(139264);
     let mut e = Event {
         letter: 0,
@@ -66,13 +68,12 @@ pub(crate) fn table(memory: &mut Memory, lists: &[u8]) {
         length: 139264,
     };
     let mut r = show_lists::begun(true, 0, 0);
-    let mut i: usize = 0;
-    while i < lists.len() {
-        r = show_lists::after(r, lists[i]);
-        i += 1;
+    for b in lists {
+        r = show_lists::after(out, r, *b)?;
         if r.letter != 0 {
             e = next(e, r.letter, r.number);
-            event(&mut s, memory, e);
+            event(out, &mut s, memory, e)?;
         }
     }
+    Ok(())
 }

@@ -1,7 +1,10 @@
 // How an event is said, from the words that are written for it: a line for the letter of each event, and one for the letter of each answer.
+use std::io;
+use std::io::Write;
 
-pub(crate) fn told(letter: u8, a: &[u8]) {
+pub(crate) fn told(out: &mut impl Write, letter: u8, a: &[u8]) -> io::Result<()> {
     show_lines::told(
+        out,
         b"r REQBUFS %d\x00\n\
         b QUERYBUF %d\x00\n\
         q QBUF %d\x00\n\
@@ -47,5 +50,5 @@ pub(crate) fn told(letter: u8, a: &[u8]) {
         Haccepted %d\x00 handed %d\x04 damaged %d\x08 dropped %d\x0c discarded %d\x10;\n",
         letter,
         a,
-    );
+    )
 }

@@ -1,18 +1,26 @@
 // Lists of events on the bench's device, from a table. No contract here says more than that the function is safe and ends.
+#![tactic(auto)]
+
 use show_events::{Captions, Memory};
+use std::io;
+use std::io::Write;
 
 // The lists of a table, one after the other. A list starts with an opening; before the first, the device is one that no sheet opened.
-pub fn table(pictures: &mut Memory, captions: &mut Captions, lists: &[u8]) {
+pub fn table(
+    out: &mut impl Write,
+    pictures: &mut Memory,
+    captions: &mut Captions,
+    lists: &[u8],
+) -> io::Result<()> {
     let none = [0u8; 16];
     let made = show_opening::open(&none);
     let mut d = made.device;
     let mut e = show_lists::begun(true, 0, 0);
-    let mut i: usize = 0;
-    while i < lists.len() {
-        e = show_lists::after(e, lists[i]);
-        i += 1;
+    for b in lists {
+        e = show_lists::after(out, e, *b)?;
         if 32 < e.letter {
-            d = show_events::event(d, pictures, captions, e);
+            d = show_events::event(out, d, pictures, captions, e)?;
         }
     }
+    Ok(())
 }

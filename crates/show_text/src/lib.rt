@@ -1,65 +1,62 @@
-// Words and numbers on standard output, for the programs that show something. No contract here says more than that each function is
-// safe and ends: nothing can be said of what is written.
+// Words and numbers on a writer, for the programs that show something. No contract here says more than that each function is safe and
+// ends: nothing can be said of what is written. A write that fails is given back as an error.
+#![tactic(auto)]
 
-pub fn text(t: &[u8]) {
-    io::write_all(libc::STDOUT_FILENO, t);
+use std::io;
+use std::io::Write;
+
+pub fn text(out: &mut impl Write, t: &[u8]) -> io::Result<()> {
+    out.write_all(t)
 }
 
 // One byte, as it stands.
-pub fn letter(c: u8) {
+pub fn letter(out: &mut impl Write, c: u8) -> io::Result<()> {
     let t = [c];
-    text(&t);
+    text(out, &t)
 }
 
-pub fn long(n: u64) {
-    io::print_decimal(libc::STDOUT_FILENO, n);
+pub fn long(out: &mut impl Write, n: u64) -> io::Result<()> {
+    write!(out, "{n}")
 }
 
 // A text, and a number after it.
-pub fn number(t: &[u8], n: u32) {
-    text(t);
-    long(n as u64);
+pub fn number(out: &mut impl Write, t: &[u8], n: u32) -> io::Result<()> {
+    text(out, t)?;
+    long(out, n as u64)
 }
 
-pub fn hex(n: u32) {
-    text(b"0x");
-    io::print_hex(libc::STDOUT_FILENO, n as u64, 8);
+pub fn hex(out: &mut impl Write, n: u32) -> io::Result<()> {
+    write!(out, "0x{n:08x}")
 }
 
 // A byte, by its two digits.
-pub fn byte(b: u8) {
-    io::print_hex(libc::STDOUT_FILENO, b as u64, 2);
+pub fn byte(out: &mut impl Write, b: u8) -> io::Result<()> {
+    write!(out, "{b:02x}")
 }
 
 // The signed number that a word's 32 bits stand for.
-pub fn signed(w: u32) {
+pub fn signed(out: &mut impl Write, w: u32) -> io::Result<()> {
     if w < 0x8000_0000 {
-        long(w as u64);
+        long(out, w as u64)
     } else {
-        letter(b'-');
-        long((0xffff_ffff - w) as u64 + 1);
+        letter(out, b'-')?;
+        long(out, (0xffff_ffff - w) as u64 + 1)
     }
 }
 
 // A field that zeros fill up: the bytes before the first zero.
-pub fn name(field: &[u8]) {
-    let mut i: usize = 0;
-    while i < field.len() {
-        if field[i] == 0 {
-            return;
+pub fn name(out: &mut impl Write, field: &[u8]) -> io::Result<()> {
+    for c in field {
+        if *c == 0 {
+            break;
         }
-        letter(field[i]);
-        i += 1;
+        letter(out, *c)?;
     }
+    Ok(())
 }
 
 // Seconds, and microseconds with all their six digits.
-pub fn time(seconds: u32, microseconds: u32) {
-    long(seconds as u64);
-    letter(b'.');
-    let mut place: u32 = 100000;
-    while 0 < place {
-        long((microseconds / place % 10) as u64);
-        place /= 10;
-    }
+pub fn time(out: &mut impl Write, seconds: u32, microseconds: u32) -> io::Result<()> {
+    let micros = microseconds % 1000000;
+    write!(out, "{seconds}.{micros:06}")
 }
