@@ -1,5 +1,5 @@
 -- The planes of a picture, counted from 0.
-use Rattle.std.specs.Prelude.{ℕ, ◌+◌, ◌*◌, ◌/◌, min, Bool, true, false, cond, not, ◌&&◌, ◌||◌, List, [], ◌∷◌, eqb, leb, length, get_or, take, drop}
+use Rattle.std.specs.Prelude.{ℕ, ◌+◌, ◌*◌, ◌/◌, Bool, cond, not, ◌||◌, List, [], ◌∷◌, eqb, leb, length, get_or, take, drop}
 use Rattle.plane_rules.specs.declared.Place.{Place}
 use Rattle.format_rules.specs.declared.Format.{Format}
 use Rattle.plane_rules.specs.declared.Component.{Component}

@@ -1,4 +1,6 @@
 // The planes of a picture: what each holds, and the part of a lent frame that it is.
+#![tactic(auto)]
+
 ghost use Rattle.std.specs.Prelude.{◌≡◌, [], ◌∷◌, get_or, length};
 ghost use Rattle.plane_rules.specs.Planes.{component_of, plane_count, component_length, plane_start, plane_of, part_at};
 ghost use Rattle.plane_rules.specs.declared.Component.TheVariants.{Nothing};

@@ -1,4 +1,6 @@
 // The bytes that answer with services.
+#![tactic(auto)]
+
 mod told;
 
 pub use told::{put_services, put_services_capability};

@@ -1,5 +1,5 @@
 // Sheets that break one rule each, and good ones: what the check says of each, a line to a sheet. The table of them is the standard
-// input, and says how it is read.
+// input, and says how it is read; what goes on past 65,536 bytes is not read.
 #![tactic(auto)]
 
 mod cases;
@@ -12,6 +12,6 @@ fn main(rt: HostRuntime) -> io::Result<()> {
     rt.reader().read_to_end(&mut lines)?;
     let mut out = BufWriter::new(rt.alloc(), io::writer(&rt))?;
     let mut space = [0u8; 3000];
-    cases::table(&mut out, &mut space, &lines)?;
+    cases::table(&mut out, &mut space, wire_read::part(&lines, 0, 65536))?;
     out.flush()
 }

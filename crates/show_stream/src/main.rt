@@ -1,5 +1,5 @@
 // Lists of events over one stream of buffers: what each event is answered, an item to an event. The lists stand on standard input, a line with
-// a title, a line with events; the module `events` has the letter of each event, the module `items` how it is said.
+// a title, a line with events; what goes on past 65,536 bytes is not read. The module `events` has the letter of each event, the module `items` how it is said.
 #![tactic(auto)]
 
 mod events;
@@ -13,6 +13,6 @@ fn main(rt: HostRuntime) -> io::Result<()> {
     let mut lists = Vec::new(rt.alloc());
     rt.reader().read_to_end(&mut lists)?;
     let mut out = BufWriter::new(rt.alloc(), io::writer(&rt))?;
-    events::table(&mut out, &mut memory, &lists)?;
+    events::table(&mut out, &mut memory, wire_read::part(&lists, 0, 65536))?;
     out.flush()
 }

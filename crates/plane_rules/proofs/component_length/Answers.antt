@@ -1,11 +1,9 @@
 -- Each component by its case; a line times a height fits 32 bits. Assumes nothing.
-use mathlib.Core.Path.{◌≡◌, sym, ap, ap₂, ◌∙◌}
-use Prim.Native.Nat.{ℕ, ◌*◌, ◌/◌, ◌≤◌}
+use mathlib.Core.Path.{sym, ap, ap₂, ◌∙◌}
+use Prim.Native.Nat.{ℕ, ◌*◌, ◌/◌}
 use native.Mathlib.Omega.{arith}
-use Rattle.format_rules.specs.Size.{bytes_per_line, held_height}
 use Rattle.plane_rules.specs.Planes.{component_length}
 use Rattle.format_rules.proofs.Bounds.{line_fits, height_fits, product_fits}
-use borrow.Author.Rules.{rules}
 use Rattle.plane_rules.proofs.component_length.Goals as goal
 
 pub overflow_mul-result : goal.overflow_mul-result

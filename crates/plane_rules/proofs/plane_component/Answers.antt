@@ -5,7 +5,6 @@ use borrow.Author.Tests.{eq-eqb, ne_eqb}
 use Rattle.plane_rules.specs.declared.Component.TheVariants.{Nothing, Packed, Luma, CbCr}
 use Rattle.plane_rules.specs.Planes.{component_of, planes_of}
 use Rattle.plane_rules.proofs.Order.{nothing_more}
-use borrow.Author.Rules.{rules}
 use Rattle.plane_rules.proofs.plane_component.Goals as goal
 
 pub returns-then-code-eq-YU12 : goal.returns-then-code-eq-YU12

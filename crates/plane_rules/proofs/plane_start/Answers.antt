@@ -9,7 +9,6 @@ use Rattle.format_rules.specs.declared.Format.{Format}
 use Rattle.plane_rules.specs.declared.Component.{Component}
 use Rattle.plane_rules.specs.Planes.{component_length, component_of, plane_start, plane_length}
 use Rattle.plane_rules.proofs.Lengths.{component_fits}
-use borrow.Author.Rules.{rules}
 use Rattle.plane_rules.proofs.plane_start.Goals as goal
 
 -- the start by the two tests

@@ -1,8 +1,5 @@
 -- The two stores are the run of the two bytes of the definition. Assumes nothing.
-use native.Mathlib.Omega.{arith}
 use native.Mathlib.Numerals.{add-one}
-use lib.ListN.{length-set}
-use borrow.Author.Rules.{rules}
 use Rattle.service_replies.specs.Halves.{le16}
 use Rattle.service_replies.proofs.told.put_half.Goals as goal
 

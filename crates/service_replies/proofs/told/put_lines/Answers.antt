@@ -1,9 +1,7 @@
 -- The invariant: what is left to store, stored now, gives what the function ensures. Assumes nothing.
-use mathlib.Core.Path.{◌≡◌, refl, ◌∙◌, sym, ap}
-use Prim.Native.Nat.{◌+◌, ◌*◌, ◌≤◌, ◌-◌}
-use native.Mathlib.Nat.{add-zero}
-use lib.ListN.{length, drop, drop_of_length-le}
-use lib.Seq.{sets, length-sets}
+use mathlib.Core.Path.{◌∙◌, sym, ap}
+use lib.ListN.{length, drop_of_length-le}
+use lib.Seq.{length-sets}
 use borrow.Author.Rules.{rules}
 use Rattle.service_replies.specs.Halves.{halves_of}
 use Rattle.service_replies.proofs.Halves.{halves_turn}

@@ -1,12 +1,9 @@
 -- The invariant: what is left to store, stored now, gives what the function ensures. Assumes nothing.
-use mathlib.Core.Path.{◌≡◌, refl, ◌∙◌, sym, ap}
+use mathlib.Core.Path.{◌≡◌}
 use Prim.Native.Nat.{◌+◌, ◌*◌, ◌≤◌, ◌-◌}
-use native.Mathlib.Nat.{add-zero}
-use lib.ListN.{length, drop, drop_of_length-le}
-use lib.Seq.{sets, length-sets}
-use borrow.Author.Rules.{rules}
+use lib.ListN.{length, drop}
+use lib.Seq.{sets}
 use Rattle.service_replies.specs.Halves.{halves_of}
-use Rattle.service_replies.proofs.Halves.{halves_turn}
 use Rattle.service_replies.proofs.told.put_lines.Given as goal
 
 abbrev pub invariant-loop-k : goal.invariant-loop-k

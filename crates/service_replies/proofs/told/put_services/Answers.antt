@@ -1,6 +1,5 @@
 -- The chain of what the callees ensure: each piece over those before it, the whole over the argument. Assumes nothing.
 use Rattle.service_replies.specs.Services.{services_reply}
-use borrow.Author.Rules.{rules}
 use Rattle.service_replies.proofs.told.put_services.Goals as goal
 
 pub returns : goal.returns
