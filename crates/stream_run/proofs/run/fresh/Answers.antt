@@ -5,16 +5,8 @@ use Rattle.stream_maps.specs.Maps.{no_maps}
 use Rattle.stream_words.specs.Moves.{emptied}
 use Rattle.wire_read.specs.Lists.{tab}
 use mathlib.Core.Path.{refl}
-use borrow.Author.Rules.{rules}
-use Rattle.stream_run.proofs.run.fresh.Statement.{statement}
-use Rattle.stream_run.proofs.run.fresh.Tie as tie
+use Rattle.stream_run.proofs.run.fresh.Goals as goal
 
-array-write-w : tie.Need-array-write-w
-array-write-w c = search rules
-
-returns : tie.Need-returns
+pub returns : goal.returns
 unfolding fresh_stream emptied stream_in queues_in maps_in no_maps tab
 returns c = refl
-
-pub fresh_spec : {M : Type 1} → statement M
-fresh_spec = tie.close (tie.spec array-write-w returns)
