@@ -8,7 +8,7 @@ use ioctl_table::Refusal;
 pub use store::arrive;
 
 // What an arrival is answered. A stored one tells the buffer and the frame's number.
-#[derive(Drop)]
+#[derive(Clone, Copy)]
 pub enum Arrival {
     Refused(Refusal),
     Ignored,

@@ -7,7 +7,7 @@ ghost use Rattle.stream_words.specs.Words.{low, lined_in, holding_in, place_in, 
 
 // When a frame was taken. It goes from function to function whole: a signed number in a struct needs no proof that it fits.
 #[repr(C)]
-#[derive(Drop)]
+#[derive(Clone, Copy)]
 pub struct Time {
     pub seconds: i32,
     pub microseconds: i32,
@@ -15,7 +15,7 @@ pub struct Time {
 
 // A buffer that a frame stands in: its index, the frame's number in its run, its bytes used, its time.
 #[repr(C)]
-#[derive(Drop)]
+#[derive(Clone, Copy)]
 pub struct Filled {
     pub index: u32,
     pub number: u32,
@@ -24,7 +24,7 @@ pub struct Filled {
 }
 
 // Which queue a buffer is in.
-#[derive(Drop)]
+#[derive(Clone, Copy)]
 pub enum Standing {
     Dequeued,
     Incoming,
