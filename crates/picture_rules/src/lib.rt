@@ -1,4 +1,6 @@
 // When a picture is whole.
+#![tactic(auto)]
+
 ghost use Rattle.std.specs.Prelude.{◌≡◌};
 ghost use Rattle.picture_rules.specs.Picture.{in_second, whole_picture};
 

@@ -1,5 +1,7 @@
 // How a frame gets its buffer. The array is lent as a slice, `_words`, where the proof has to know how many elements it has: of
 // an array behind a reference only such a loan tells.
+#![tactic(auto)]
+
 ghost use Rattle.std.specs.Prelude.{◌≡◌};
 ghost use Rattle.stream_words.specs.Stream.{on_queues};
 ghost use Rattle.stream_words.specs.Words.{stream_in};

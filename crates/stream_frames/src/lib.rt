@@ -1,4 +1,6 @@
 // Times, and the frames that stand in the line of a stream.
+#![tactic(auto)]
+
 ghost use Rattle.std.specs.Prelude.{◌≡◌};
 ghost use Rattle.stream_words.specs.Words.{time_of, frame_in};
 

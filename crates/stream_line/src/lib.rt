@@ -1,4 +1,6 @@
 // What stands at the two ends of a stream's line: the oldest frame, the buffer that has waited longest, and whether there is room.
+#![tactic(auto)]
+
 ghost use Rattle.std.specs.Prelude.{◌≡◌, length};
 ghost use Rattle.stream_words.specs.Words.{stream_in};
 ghost use Rattle.stream_words.specs.Moves.{no_frame, has_room, oldest_of, next_of};

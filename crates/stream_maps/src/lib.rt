@@ -1,4 +1,6 @@
 // The map counts of a stream: how often a client has each buffer mapped.
+#![tactic(auto)]
+
 ghost use Rattle.std.specs.Prelude.{◌≡◌};
 ghost use Rattle.stream_words.specs.Words.{stream_in};
 ghost use Rattle.stream_maps.specs.Maps.{is_mapped, any_mapped};

@@ -1,5 +1,7 @@
 // The two calls of a client that map a buffer and unmap it. Nothing is mapped here: what a client has mapped is counted, so that its memory is
 // not given away meanwhile.
+#![tactic(auto)]
+
 ghost use Rattle.std.specs.Prelude.{◌≡◌, ◌<◌, min};
 ghost use Rattle.stream_slots.specs.declared.Slot.TheVariants.{Buffer};
 ghost use Rattle.stream_words.specs.Words.{stream_in};

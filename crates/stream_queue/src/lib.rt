@@ -1,4 +1,6 @@
 // The two calls of a client that move one buffer: handed in, and handed over when it holds a frame.
+#![tactic(auto)]
+
 ghost use Rattle.std.specs.Prelude.{◌≡◌};
 ghost use Rattle.stream_words.specs.Words.{stream_in};
 ghost use Rattle.stream_run.specs.Switches.{answers};

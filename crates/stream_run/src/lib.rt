@@ -1,4 +1,6 @@
 // One stream of buffers, whatever it carries: its runs, and the calls that grant buffers, begin a run and end it. Sizes come in as parameters.
+#![tactic(auto)]
+
 mod numbers;
 mod run;
 mod switches;

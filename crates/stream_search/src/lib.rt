@@ -1,4 +1,6 @@
 // Where a buffer stands in the line.
+#![tactic(auto)]
+
 ghost use Rattle.std.specs.Prelude.{◌≡◌, ◌||◌, ◌≤◌};
 ghost use Rattle.stream_words.specs.Words.{stream_in};
 ghost use Rattle.stream_words.specs.Moves.{is_incoming, is_outgoing, standing_of};

@@ -1,4 +1,6 @@
 // The verdict on the film of the last run.
+#![tactic(auto)]
+
 ghost use Rattle.std.specs.Prelude.{◌≡◌};
 ghost use Rattle.stream_words.specs.Words.{stream_in};
 ghost use Rattle.stream_verdict.specs.Film.{verdict_of, verdict_number};

@@ -1,0 +1,40 @@
+-- The tests in the order of the definition; the queues and the count as the callees promise. Assumes nothing.
+use Rattle.stream_queue.proofs.Handed.{one_handed}
+use Rattle.stream_queue.specs.Queueing.{dequeue_of}
+use Rattle.stream_words.proofs.Record.{granted_is, streaming_is}
+use Rattle.stream_words.specs.Words.{stream_in}
+use Rattle.std.proofs.Common.{◌≡◌, length, sym, rules, eq-eqb, ne_eqb}
+use Rattle.stream_queue.proofs.dequeue.Goals as goal
+
+pub returns-then-s-eq0 : goal.returns-then-s-eq0
+unfolding dequeue_of
+returns-then-s-eq0 c = simp (granted_is, eq-eqb _ _ c.if-s-eq0.true)
+
+pub returns-then-s-eq0-2 : goal.returns-then-s-eq0-2
+unfolding dequeue_of
+returns-then-s-eq0-2 c = simp (granted_is, streaming_is, ne_eqb _ _ c.if-s-eq0.false, eq-eqb _ _ c.if-s-eq0-2.true)
+
+pub returns-in_default : goal.returns-in_default
+unfolding dequeue_of
+returns-in_default c =
+    simp (
+      granted_is,
+      streaming_is,
+      ne_eqb _ _ c.if-s-eq0.false,
+      ne_eqb _ _ c.if-s-eq0-2.false,
+      sym c.in_default.ensures,
+    )
+
+pub returns : goal.returns
+unfolding dequeue_of
+returns c =
+    let w = c.args.s.now in
+    let long : length c.pop.new.s ≡ 208 = search rules in
+    rw (one_handed c.pop.new.s (stream_in w) c.wrapping_add_u64.result long c.pop.ensures c.wrapping_add_u64.ensures.value)
+    (simp (
+      granted_is,
+      streaming_is,
+      ne_eqb _ _ c.if-s-eq0.false,
+      ne_eqb _ _ c.if-s-eq0-2.false,
+      sym c.in-Frame.ensures,
+    ))
