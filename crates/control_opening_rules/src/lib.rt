@@ -1,4 +1,6 @@
 // The values of controls at opening.
+#![tactic(auto)]
+
 ghost use Rattle.std.specs.Prelude.{◌≡◌};
 ghost use Rattle.control_value_rules.specs.Values.{opening_values};
 

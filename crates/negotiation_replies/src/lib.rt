@@ -1,4 +1,6 @@
 // The answer to G_FMT, S_FMT and TRY_FMT.
+#![tactic(auto)]
+
 ghost use Rattle.std.specs.Prelude.{◌≡◌};
 ghost use Rattle.std.proofs.lemmas.List.Edits.{sets};
 ghost use Rattle.negotiation_rules.specs.Answer.{format_reply};

@@ -1,14 +1,13 @@
 -- The words over 204 zeros leave 168 of them; the whole is stored at once. Assumes nothing.
-use mathlib.Core.Path.{◌≡◌, refl, ap, ◌∙◌}
+use mathlib.Core.Path.{◌≡◌}
 use mathlib.Core.List.{List, [], ◌∷◌, ◌++◌}
-use Prim.Native.Nat.{ℕ, ◌+◌}
-use lib.ListN.{length, replicate}
+use Prim.Native.Nat.{ℕ}
+use lib.ListN.{replicate}
 use lib.Seq.{sets}
 use Rattle.wire_read.proofs.Stores.{over_zeros}
 use Rattle.wire_read.proofs.Words.{length_bytes_of}
-use Rattle.wire_read.specs.Words.{bytes_of, le32}
+use Rattle.wire_read.specs.Words.{bytes_of}
 use Rattle.negotiation_rules.specs.Answer.{format_reply, picture_words}
-use borrow.Author.Rules.{rules}
 use Rattle.negotiation_replies.proofs.put_format.Goals as goal
 
 -- nine words over 204 zeros
