@@ -1,4 +1,6 @@
 // When a frame of the caption lines is whole.
+#![tactic(auto)]
+
 ghost use Rattle.std.specs.Prelude.{◌≡◌, ◌&&◌, ◌/◌, eqb, ltb, length, get_or};
 ghost use Rattle.service_rules.specs.Services.{has};
 ghost use Rattle.caption_rules.specs.Caption.{is_service, place_of, good_records, whole_caption};

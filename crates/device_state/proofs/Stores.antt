@@ -1,7 +1,7 @@
 -- Stores in the ten words of a setup. Assumes nothing.
 use mathlib.Core.Path.{◌≡◌, refl, ap, ◌∙◌, subst}
-use Prim.Native.Nat.{ℕ, suc}
-use mathlib.Core.List.{List, [], ◌∷◌}
+use Prim.Native.Nat.{ℕ}
+use mathlib.Core.List.{List}
 use lib.ListN.{length, get_or, set}
 use Rattle.wire_signed.specs.Signed.{signed}
 use Rattle.wire_read.specs.Lists.{tab}

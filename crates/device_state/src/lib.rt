@@ -1,6 +1,8 @@
 // What a device keeps. The sheet's copy never changes and is lent to the functions that read it; what requests choose, the values of the
 // controls and the numbers of the streams stand in arrays that are lent and changed in place. All of it is numbers, so that a caller in C
 // can hold it, and every value of it is answered.
+#![tactic(auto)]
+
 ghost use Rattle.std.specs.Prelude.{◌≡◌};
 ghost use Rattle.device_state.specs.Setup.{setup_in, closed_setup, opening_setup};
 

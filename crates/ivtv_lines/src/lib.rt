@@ -1,4 +1,6 @@
 // One line of the embedded packing: a record of 64 bytes as 43 bytes of a block, and back.
+#![tactic(auto)]
+
 ghost use Rattle.std.specs.Prelude.{◌≡◌, length, get_or, take, drop, ◌+◌, ◌-◌, ◌≤◌, eqb};
 ghost use Rattle.std.proofs.lemmas.List.Edits.{sets};
 ghost use Rattle.sheet_rules.specs.Folds.{all_below};

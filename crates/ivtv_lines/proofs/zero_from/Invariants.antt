@@ -1,13 +1,9 @@
 -- The invariant: the bytes passed are zero exactly if the flag is set. Assumes nothing.
-use mathlib.Core.Path.{◌≡◌, refl, sym, ap, ◌∙◌}
-use mathlib.Core.Bool.{Bool, ◌&&◌}
-use Prim.Native.Nat.{ℕ, ◌+◌, ◌-◌, ◌≤◌, ◌<◌}
-use native.Mathlib.Omega.{arith}
+use mathlib.Core.Path.{◌≡◌}
+use Prim.Native.Nat.{◌+◌, ◌-◌, ◌≤◌}
 use lib.Dec.{eqb}
 use lib.ListN.{get_or}
 use Rattle.sheet_rules.specs.Folds.{all_below}
-use Rattle.sheet_rules.proofs.Folding.{all_more}
-use borrow.Author.Rules.{rules}
 use Rattle.ivtv_lines.proofs.zero_from.Given as goal
 
 abbrev pub invariant-loop-j : goal.invariant-loop-j
