@@ -1,4 +1,6 @@
 // The requests that read and set the value of a control. Each takes an argument of the length that its word says, and answers any other as far as it reaches.
+#![tactic(auto)]
+
 ghost use Rattle.std.specs.Prelude.{◌≡◌, set};
 ghost use Rattle.device_state.specs.State.{State, with_values};
 ghost use Rattle.device_state.specs.Answers.{answer};

@@ -1,4 +1,6 @@
 // The request for what a control is like. It takes an argument of the length that its word says, and answers any other as far as it reaches.
+#![tactic(auto)]
+
 ghost use Rattle.std.specs.Prelude.{◌≡◌};
 ghost use Rattle.device_state.specs.State.{State};
 ghost use Rattle.device_state.specs.Answers.{answer};

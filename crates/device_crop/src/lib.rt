@@ -1,4 +1,6 @@
 // The crop that requests choose, read and kept in the words of the setup.
+#![tactic(auto)]
+
 ghost use Rattle.std.specs.Prelude.{◌≡◌};
 ghost use Rattle.device_state.specs.Setup.{setup_in};
 ghost use Rattle.device_state.specs.Changes.{changed_crop};

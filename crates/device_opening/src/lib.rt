@@ -1,4 +1,6 @@
 // Opening: any bytes as the sheet, any length of each memory.
+#![tactic(auto)]
+
 ghost use Rattle.std.specs.Prelude.{◌≡◌};
 ghost use Rattle.device_opening.specs.Opening.{closed_by, opened_of, made_as};
 

@@ -1,4 +1,6 @@
 // The format that requests choose, read and kept in the words of the setup. The crop is in `device_crop`.
+#![tactic(auto)]
+
 ghost use Rattle.std.specs.Prelude.{◌≡◌};
 ghost use Rattle.device_state.specs.Setup.{setup_in};
 ghost use Rattle.device_state.specs.Changes.{changed_format};

@@ -1,4 +1,6 @@
 // The services that an argument asks for.
+#![tactic(auto)]
+
 ghost use Rattle.std.specs.Prelude.{◌≡◌};
 ghost use Rattle.service_replies.specs.Halves.{half_at};
 ghost use Rattle.service_replies.specs.Services.{lines_at, asked_services};
