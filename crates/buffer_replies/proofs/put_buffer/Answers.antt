@@ -1,6 +1,7 @@
 -- The words stored are those of the definition: the times go through their bits unchanged, the masks keep 32 bits. Assumes nothing.
 use Prim.Native.Nat.{ℕ, ◌%◌, ◌^◌, ◌<◌}
 use native.Mathlib.Omega.{arith}
+use borrow.Author.Rules.{rules}
 use lib.Bits.{bit_and, and_mask}
 use mir.Syntax.{w32}
 use mir.Val.{Fits}
@@ -19,13 +20,12 @@ pub returns : goal.returns
 unfolding buffer_reply
 returns c =
     let b = c.args.b in
-    let t = c.struct_told-1.given in
     rw (
       c.put_words.ensures,
       c.as_bits.ensures,
       c.as_bits-2.ensures,
-      again b.time.seconds t.0.1,
-      again b.time.microseconds t.1.0.1,
+      again b.time.seconds (search rules),
+      again b.time.microseconds (search rules),
       and_mask b.offset 32,
       and_mask b.length 32,
     )
