@@ -1,4 +1,6 @@
 // The answer to an arrival in numbers, for a caller in C.
+#![tactic(auto)]
+
 ghost use Rattle.std.specs.Prelude.{◌≡◌};
 ghost use Rattle.arrival_replies.specs.Answer.{told_of};
 

@@ -1,4 +1,6 @@
 // The bytes of answers about buffers, stored over the argument from its start. Reserved fields are zero.
+#![tactic(auto)]
+
 ghost use Rattle.std.specs.Prelude.{◌≡◌};
 ghost use Rattle.std.proofs.lemmas.List.Edits.{sets};
 ghost use Rattle.buffer_replies.specs.Replies.{buffers_reply, buffer_reply};

@@ -1,5 +1,7 @@
 // A frame arrives: what is answered, what becomes of the stream, what is written. Whether the frame is whole is the caller's rule (`picture_rules`
 // for pictures), and comes in as a flag; a frame longer than the frame size is never taken as whole.
+#![tactic(auto)]
+
 mod decision;
 mod store;
 

@@ -1,7 +1,7 @@
 -- The map counts of the paper: maps that were accepted, less unmaps.
 use mathlib.Core.Path.{◌≡◌, refl, sym, ap, ◌∙◌}
-use mathlib.Core.Bool.{Bool, true, false, cond, not, ◌&&◌}
-use Prim.Native.Nat.{ℕ, ◌+◌, ◌<◌, ◌≤◌}
+use mathlib.Core.Bool.{Bool, true, false, cond, ◌&&◌}
+use Prim.Native.Nat.{ℕ, ◌+◌, ◌<◌}
 use native.Mathlib.Omega.{arith}
 use borrow.Author.Tests.{eqb-true, eqb-false}
 use lib.Dec.{eqb}
@@ -9,20 +9,17 @@ use mathlib.Core.List.{List, [], ◌∷◌}
 use lib.ListN.{length}
 use Rattle.stream_maps.specs.declared.Change.{Change}
 use Rattle.stream_maps.specs.declared.Change.TheVariants.{Map, Unmap}
-use Rattle.stream_maps.specs.Maps.{no_maps, maps_of, any_mapped, blocked, turned, moved}
+use Rattle.stream_maps.specs.Maps.{no_maps, maps_of, blocked, turned, moved}
 use Rattle.stream_maps.proofs.Counts.{none_mapped, opening_unmapped, moved_here, moved_other}
-use Rattle.stream_words.specs.Stream.{Stream}
 use Rattle.stream_run.specs.declared.Reply.{Reply}
-use Rattle.stream_run.specs.declared.Reply.TheVariants.{Granted, Refused}
-use Rattle.stream_run.specs.Stream.{streaming}
+use Rattle.stream_run.specs.declared.Reply.TheVariants.{Granted}
 use Rattle.stream_run.proofs.Grants.{granted_unmapped}
-use Rattle.stream_history.specs.Calls.{Call, World, Answer, opened, answer, next}
-use Rattle.stream_history.specs.Calls.Call.{request}
+use Rattle.stream_history.specs.Calls.{Answer, opened}
 use Rattle.stream_history.specs.Calls.Answer.{replied, arrived}
 use Rattle.stream_history.specs.Paper.{Paper, Event, blank, step, noted, events, same_sort, changes}
 use Rattle.stream_history.specs.Paper.Event.{put, whole, damaged, handed, begun, ended, sized, changed, idle}
 use Rattle.stream_history.specs.Claims.{paper_after, world_after, Mapped}
-use Rattle.stream_history.proofs.Sound.{Sound, Fits, Counted, sound_blank, sound_step}
+use Rattle.stream_history.proofs.Sound.{Sound, sound_blank, sound_step}
 use Rattle.stream_history.proofs.Order.{Legal}
 use Rattle.stream_history.proofs.Tied.{tied_opened}
 use Rattle.stream_history.proofs.Every.{Kept, kept, legal_events}

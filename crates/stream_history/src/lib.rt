@@ -1,5 +1,7 @@
 // What holds of every list of calls on one stream, from its opening on. Nothing runs here: each function is named after a claim,
 // and its contract is the claim.
+#![tactic(auto)]
+
 ghost use Rattle.std.specs.Prelude.{◌≡◌, true};
 ghost use Rattle.stream_history.specs.Claims.{OnePlace, Mapped, Stores, Returns, AddsUp, Numbers, Verdicts};
 

@@ -9,14 +9,13 @@ use Rattle.ioctl_table.specs.declared.refusals.Refusal.TheVariants.{NoSuchIndex,
 use Rattle.stream_words.specs.declared.Standing.{Standing}
 use Rattle.stream_words.specs.declared.Standing.TheVariants.{Dequeued, Incoming}
 use Rattle.stream_words.specs.Stream.{Stream, on_queues}
-use Rattle.stream_words.specs.Moves.{is_incoming, is_outgoing, has_room, pushed, standing_of}
+use Rattle.stream_words.specs.Moves.{is_incoming, is_outgoing, has_room, pushed}
 use Rattle.stream_maps.specs.Maps.{is_mapped}
 use Rattle.stream_search.proofs.Found.{standing_pushed}
 use Rattle.stream_run.specs.declared.Reply.TheVariants.{Done}
 use Rattle.stream_run.specs.Switches.{Step, answers, refuses}
 use Rattle.stream_queue.specs.Queueing.{enqueue_of}
 use Rattle.stream_run.specs.Numbers.{reply_number}
-use Rattle.stream_status.specs.declared.Status.{Status}
 use Rattle.stream_status.specs.Buffer.{flags_of, frame_for, described_of, status_of, queued_of}
 
 -- by whether the line had room

@@ -1,4 +1,6 @@
 // The status of a buffer, as QUERYBUF, QBUF and DQBUF tell it.
+#![tactic(auto)]
+
 ghost use Rattle.std.specs.Prelude.{◌≡◌, ◌≤◌};
 ghost use Rattle.stream_words.specs.Words.{stream_in};
 ghost use Rattle.stream_status.specs.Buffer.{flags_for, flags_of, frame_for, described_of, status_of, queued_of, query_of, returned_of};

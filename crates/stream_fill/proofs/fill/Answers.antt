@@ -21,5 +21,5 @@ returns c =
     let b = c.as_bits-seconds in
     let d = c.as_bits-microseconds in
     fill_words a.s.now long _ _ a.number a.used b.result d.result a.time (search rules) (search rules) (search rules) (search rules)
-    (time_back a.time b.result d.result c.struct_told-1.given.0.1 b.ensures c.struct_told-2-1.given.1.0.1 d.ensures)
+    (time_back a.time b.result d.result (search rules) b.ensures (search rules) d.ensures)
     c.holding-d.ensures (omega (arith, c.lined.ensures)) c.place-p.ensures
