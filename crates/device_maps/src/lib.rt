@@ -1,4 +1,6 @@
 // Buffers are mapped and unmapped, by the type of their stream. Requests are in the crate `device_requests`, arrivals in `device_film`.
+#![tactic(auto)]
+
 ghost use Rattle.std.specs.Prelude.{◌≡◌, List, ℕ};
 ghost use Rattle.stream_maps.specs.declared.Change.TheVariants.{Map, Unmap};
 ghost use Rattle.device_state.specs.State.{state_in};

@@ -1,4 +1,6 @@
 // QUERYCAP, ENUM_FMT, and G_FMT of pictures, whose type whoever calls it has tested. Each takes an argument of the length that its word says, and answers any other as far as it reaches.
+#![tactic(auto)]
+
 ghost use Rattle.std.specs.Prelude.{◌≡◌};
 ghost use Rattle.device_state.specs.Setup.{setup_in};
 ghost use Rattle.device_state.specs.State.{State, with_setup};

@@ -1,5 +1,7 @@
 // S_FMT and TRY_FMT of pictures, whose type whoever calls them has tested. Each takes an argument of the length that its word says, and
 // answers any other as far as it reaches.
+#![tactic(auto)]
+
 ghost use Rattle.std.specs.Prelude.{◌≡◌};
 ghost use Rattle.negotiation_rules.specs.Negotiation.{negotiated};
 ghost use Rattle.device_state.specs.Setup.{setup_in};

@@ -1,5 +1,7 @@
 // G_FMT, S_FMT and TRY_FMT of sliced lines, and G_SLICED_VBI_CAP. Each takes an argument of the length that its word says, and answers any
 // other as far as it reaches. Whoever calls the first three has tested the type, and says which it is.
+#![tactic(auto)]
+
 ghost use Rattle.std.specs.Prelude.{◌≡◌, List, ℕ};
 ghost use Rattle.service_calls.specs.Services.{services_answer, g_services_of, s_services_of, try_services_of, services_capability_of};
 
