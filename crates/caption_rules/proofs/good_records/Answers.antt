@@ -1,4 +1,5 @@
 -- The invariant: the records passed are good, and the lines that they name are marked. Assumes nothing.
+use mathlib.Core.Bool.{not}
 use mathlib.Core.Path.{ap, refl}
 use Prim.Native.Nat.{◌/◌, ◌<◌}
 use native.Mathlib.Omega.{arith}

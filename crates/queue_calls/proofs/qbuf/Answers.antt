@@ -6,7 +6,6 @@ use Rattle.stream_status.specs.Buffer.{queued_of}
 use Rattle.stream_status.proofs.Joined.{queued_status}
 use Rattle.queue_calls.specs.Queues.{enqueue_reply, qbuf_of}
 use Rattle.buffer_calls.proofs.Cases.{is_one_law, not_one, step_told}
-use borrow.Author.Rules.{rules}
 use Rattle.queue_calls.proofs.qbuf.Goals as goal
 
 pub returns-then-word_at-ne1 : goal.returns-then-word_at-ne1
@@ -16,13 +15,12 @@ returns-then-word_at-ne1 c = rw (not_one c.word_at.ensures c.if-word_at-ne1.true
 pub returns-in-Done : goal.returns-in-Done
 unfolding qbuf_of
 returns-in-Done c =
-    let told = c.enum_told-1 in
     let a = c.args in
     let q = c.queued in
-    let is = rw told.given.1 at c.enqueue.ensures in
+    let is = rw c.in-Done.is at c.enqueue.ensures in
     let status = q.ensures ∙ ap (λ (b : Bool). queued_of (stream_in c.enqueue.new.s).maps c.word_at-k.result b a.size) c.has_room-room.ensures ∙ queued_status _ _ c.word_at-k.result a.size is in
     rw (is_one_law c.word_at.ensures c.if-word_at-ne1.false)
-    (step_told (rw c.word_at-k.ensures at c.enqueue.ensures) (λ q z. enqueue_reply q z a.kind a.size a.argument.now) _ told.given.1 refl
+    (step_told (rw c.word_at-k.ensures at c.enqueue.ensures) (λ q z. enqueue_reply q z a.kind a.size a.argument.now) _ c.in-Done.is refl
     (rw (status, c.word_at-k.ensures) at c.put_buffer.ensures))
 
 pub returns-in-Refused : goal.returns-in-Refused
