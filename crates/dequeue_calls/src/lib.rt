@@ -1,5 +1,7 @@
 // DQBUF of one stream, whatever it carries: the type that its calls name, and the size of its frames, come in with it.
 // That the argument names this type is tested by the caller, who picks the stream by it.
+#![tactic(auto)]
+
 ghost use Rattle.std.specs.Prelude.{◌≡◌};
 ghost use Rattle.stream_words.specs.Words.{stream_in};
 ghost use Rattle.buffer_calls.specs.Buffers.{stream_answer};
