@@ -1,18 +1,17 @@
 -- Records sorted by their bits, one after the other. Assumes nothing.
 use mathlib.Core.Path.{◌≡◌, refl, sym, ap, ◌∙◌}
-use mathlib.Core.Bool.{Bool, true, false, cond, not, ◌&&◌, false≢true}
+use mathlib.Core.Bool.{Bool, true, false, ◌&&◌}
 use mathlib.Core.List.{List}
 use Prim.Native.Nat.{ℕ, ◌+◌, ◌*◌, ◌-◌, ◌/◌, ◌%◌, ◌^◌, ◌≤◌, ◌<◌}
 use native.Mathlib.Omega.{arith}
 use native.Mathlib.Nat.{one-mul}
 use lib.Pow.{shl_exact, pow_mono}
 use borrow.Author.Tests.{eqb-true, eqb-false, eq-eqb, ne_eqb, lt-ltb, le-ltb}
-use lib.Dec.{eqb, ltb}
+use lib.Dec.{eqb}
 use lib.ListN.{length, get_or, take, drop, set, replicate, length-set, length-replicate, get_or-replicate}
 use lib.Seq.{get_or-set_same, get_or-set_other}
 use Rattle.wire_read.specs.Lists.{tab}
 use Rattle.wire_read.proofs.Tabs.{tab_length, tab_get, tab_is}
-use Rattle.ivtv_rules.specs.Lines.{record_bit}
 use Rattle.ivtv_rules.specs.Block.{block_length, mask_below}
 use Rattle.ivtv_rules.specs.Writing.{record64, naming, good_lines, packable}
 use Rattle.ivtv_rules.proofs.Named.{bit_at, named, naming_more, good_more, good_not, good_most}

@@ -1,4 +1,6 @@
 // A block written. Each record is looked at once, and its number kept at the bit of its line; then the lines are written by their bits.
+#![tactic(auto)]
+
 ghost use Rattle.std.specs.Prelude.{◌≡◌, true, false, cond, ◌+◌, ◌*◌, ◌/◌, ◌≤◌, ◌<◌, eqb, length};
 ghost use Rattle.std.proofs.lemmas.List.Edits.{sets};
 ghost use Rattle.ivtv_rules.specs.Block.{joined, opening_of};

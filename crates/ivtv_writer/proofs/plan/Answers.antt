@@ -1,8 +1,7 @@
 -- The tests of the definition, in another order. Assumes nothing.
-use mathlib.Core.Path.{◌≡◌, sym, ◌∙◌}
+use mathlib.Core.Path.{sym, ◌∙◌}
 use mathlib.Core.Bool.{false≢true}
 use Rattle.ivtv_writer.proofs.Sorting.{part_left, too_many, other_length, by_records}
-use borrow.Author.Rules.{rules}
 use Rattle.ivtv_writer.proofs.plan.Goals as goal
 
 pub returns-then-lines-ne0 : goal.returns-then-lines-ne0

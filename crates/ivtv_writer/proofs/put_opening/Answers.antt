@@ -1,12 +1,11 @@
 -- The letters, and behind them the words. Assumes nothing.
-use mathlib.Core.Path.{◌≡◌, refl, sym, ◌∙◌}
+use mathlib.Core.Path.{refl, ◌∙◌}
 use Prim.Native.Nat.{◌/◌, ◌%◌}
 use mathlib.Core.List.{[], ◌∷◌}
 use Rattle.wire_read.specs.Words.{bytes_of}
 use Rattle.wire_read.proofs.Stores.{then_at}
 use Rattle.ivtv_rules.specs.Block.{itv0}
 use Rattle.ivtv_writer.proofs.Written.{all_lines, some_lines}
-use borrow.Author.Rules.{rules}
 use Rattle.ivtv_writer.proofs.put_opening.Goals as goal
 
 pub returns-then-n-eq36 : goal.returns-then-n-eq36

@@ -1,22 +1,16 @@
 -- The invariant: the records passed are good, each is kept at the bit of its line, and the mask has these bits. Assumes nothing.
-use mathlib.Core.Path.{◌≡◌, refl, sym, ap, ◌∙◌}
-use mathlib.Core.Bool.{true, false, false≢true}
-use Prim.Native.Nat.{ℕ, ◌+◌, ◌-◌, ◌^◌, ◌≤◌, ◌<◌}
+use mathlib.Core.Path.{refl, sym, ap, ◌∙◌}
+use mathlib.Core.Bool.{false≢true}
+use Prim.Native.Nat.{ℕ, ◌+◌}
 use native.Mathlib.Omega.{arith}
-use lib.ListN.{length}
-use lib.Pow.{pow_mono}
-use Rattle.wire_read.specs.Lists.{tab}
 use Rattle.sheet_rules.specs.Folds.{all_below}
 use Rattle.ivtv_rules.specs.Lines.{record_bit}
-use Rattle.ivtv_rules.specs.Block.{mask_below}
-use Rattle.ivtv_rules.specs.Writing.{naming, good_lines}
+use Rattle.ivtv_rules.specs.Writing.{good_lines}
 use Rattle.ivtv_rules.proofs.Masks.{mask_fits}
 use Rattle.ivtv_rules.proofs.Named.{named}
 use Rattle.ivtv_writer.proofs.Sorting.{cut, one_shifted, none_sorted, none_masked, one_sorted, one_masked, no_line, named_before, new_line}
 use borrow.Author.Rules.{rules}
 use Rattle.ivtv_writer.proofs.sort.Goals as goal
-
-record-bit-requires c κs = search rules
 
 pub loop-i-init : goal.loop-i-init
 unfolding good_lines all_below

@@ -1,15 +1,13 @@
 -- Nothing, or the opening and the lines behind it, which are the whole block. Assumes nothing.
 use mathlib.Core.Path.{◌≡◌, refl, sym, ap, ◌∙◌}
 use mathlib.Core.Bool.{true, false}
-use mathlib.Core.List.{List}
 use Prim.Native.Nat.{◌/◌}
 use lib.ListN.{length}
-use lib.Seq.{sets, length-sets}
+use lib.Seq.{length-sets}
 use borrow.Author.Tests.{not-true, not-false}
 use Rattle.ivtv_rules.specs.Writing.{packable, packed}
 use Rattle.ivtv_writer.proofs.Written.{behind}
 use Rattle.ivtv_writer.proofs.Whole.{room_for, whole_block}
-use borrow.Author.Rules.{rules}
 use Rattle.ivtv_writer.proofs.write.Goals as goal
 
 pub returns-then-not-sorted : goal.returns-then-not-sorted
@@ -27,8 +25,8 @@ put_lines-requires c =
     let o = c.put_opening in
     let g = not-false p.result.good c.if-not-sorted.false in
     let e : packable a.lines.now (length a.block.now) ≡ true = sym p.ensures.0 ∙ g in
-    let z : length o.new.0 ≡ length a.block.now = ap length o.ensures ∙ simp length-sets in
-    rw c.opening_length.ensures (room_for a.lines.now a.block.now p.result.places p.result.mask e (p.ensures.1 g) o.new.0 z)
+    let z : length o.new.block ≡ length a.block.now = ap length o.ensures ∙ simp length-sets in
+    rw c.opening_length.ensures (room_for a.lines.now a.block.now p.result.places p.result.mask e (p.ensures.1 g) o.new.block z)
 
 pub returns : goal.returns
 unfolding packed
