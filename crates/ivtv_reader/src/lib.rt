@@ -1,4 +1,6 @@
 // A block read. All of it is looked at before anything is written.
+#![tactic(auto)]
+
 ghost use Rattle.std.specs.Prelude.{◌≡◌, ◌+◌, ◌*◌, ◌≤◌, ◌<◌, length};
 ghost use Rattle.std.proofs.lemmas.List.Edits.{sets};
 ghost use Rattle.ivtv_rules.specs.Block.{joined};
@@ -48,8 +50,8 @@ fn good_opening(block: &[u8]) -> bool
 
 // How many lines a mask names.
 fn count_in(mask: u64) -> usize
-    ensures value { result ≡ count_in mask 36 }
-    ensures upper_bound { result ≤ 36 }
+    ensures ones { result ≡ count_in mask 36 }
+    ensures at_most_36 { result ≤ 36 }
 {
     u64::count_ones(mask % BEYOND) as usize
 }

@@ -1,9 +1,7 @@
 -- The invariant: the lines passed are good. Assumes nothing.
 use mathlib.Core.Path.{◌≡◌, refl, sym, ap, ◌∙◌}
 use mathlib.Core.Bool.{true, false}
-use Prim.Native.Nat.{◌+◌, ◌*◌, ◌-◌, ◌≤◌, ◌<◌}
 use native.Mathlib.Omega.{arith}
-use borrow.Author.Tests.{not-true, not-false}
 use Rattle.sheet_rules.specs.Folds.{all_below}
 use Rattle.sheet_rules.proofs.Truth.{all_not}
 use Rattle.sheet_rules.proofs.Folding.{all_more}
@@ -23,7 +21,7 @@ returns-then-not-good_line c =
     let g = c.good_line in
     let l = c.loop-j in
     let a = c.args in
-    let e : good_line (line_at a.block.now a.start l.j) ≡ false = sym (g.ensures ∙ ap good_line (cut a.block.now a.start l.j)) ∙ not-true g.result c.if-not-good_line.true in
+    let e : good_line (line_at a.block.now a.start l.j) ≡ false = sym (g.ensures ∙ ap good_line (cut a.block.now a.start l.j)) ∙ c.if-not-good_line.true in
     sym (all_not a.n (λ i. good_line (line_at a.block.now a.start i)) l.j (search rules) e)
 
 pub loop-j-preserved : goal.loop-j-preserved
@@ -32,5 +30,5 @@ loop-j-preserved c =
     let g = c.good_line in
     let l = c.loop-j in
     let a = c.args in
-    let e : good_line (line_at a.block.now a.start l.j) ≡ true = sym (g.ensures ∙ ap good_line (cut a.block.now a.start l.j)) ∙ not-false g.result c.if-not-good_line.false in
+    let e : good_line (line_at a.block.now a.start l.j) ≡ true = sym (g.ensures ∙ ap good_line (cut a.block.now a.start l.j)) ∙ c.if-not-good_line.false in
     (omega arith, all_more l.j (λ i. good_line (line_at a.block.now a.start i)) ∙ rw (l.invariant.1, e))

@@ -1,6 +1,5 @@
 -- The tests of the definition. Assumes nothing.
 use Rattle.ivtv_rules.specs.Reading.{good_opening}
-use borrow.Author.Rules.{rules}
 use Rattle.ivtv_reader.proofs.good_opening.Goals as goal
 
 pub returns : goal.returns

@@ -1,6 +1,5 @@
 -- By the opening. Assumes nothing.
 use Rattle.ivtv_rules.specs.Reading.{mask_in}
-use borrow.Author.Rules.{rules}
 use Rattle.ivtv_reader.proofs.mask_in.Goals as goal
 
 pub returns-then-opens : goal.returns-then-opens

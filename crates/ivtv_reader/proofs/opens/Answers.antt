@@ -1,6 +1,5 @@
 -- Too short, or letter by letter. Assumes nothing.
 use Rattle.ivtv_reader.proofs.Openings.{too_short, letter_by_letter}
-use borrow.Author.Rules.{rules}
 use Rattle.ivtv_reader.proofs.opens.Goals as goal
 
 pub returns-then-block-lt4 : goal.returns-then-block-lt4

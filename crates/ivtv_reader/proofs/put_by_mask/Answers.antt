@@ -1,7 +1,7 @@
 -- The invariant: the records of the bits passed are stored, as many as are set among them. Assumes nothing.
 use mathlib.Core.Path.{◌≡◌, refl, sym, ap, ◌∙◌}
 use mathlib.Core.List.{List}
-use Prim.Native.Nat.{ℕ, ◌+◌, ◌*◌, ◌-◌, ◌/◌, ◌^◌, ◌≤◌, ◌<◌}
+use Prim.Native.Nat.{ℕ, ◌+◌, ◌*◌, ◌/◌, ◌^◌, ◌≤◌, ◌<◌}
 use native.Mathlib.Omega.{arith}
 use native.Mathlib.Nat.{div-one}
 use lib.Count.{count_trailing_zeros}
@@ -14,29 +14,46 @@ use Rattle.ivtv_rules.specs.Block.{joined}
 use Rattle.ivtv_rules.specs.Reading.{bit_on, count_in, line_at}
 use Rattle.ivtv_rules.proofs.Joined.{stored_more}
 use Rattle.ivtv_rules.proofs.Bits.{next_set, next_below, next_joined, next_count, last_joined}
-use Rattle.ivtv_reader.specs.Stored.{record_in}
+use Rattle.ivtv_reader.specs.Stored.{record_in, Room}
 use Rattle.ivtv_reader.proofs.Taken.{cut, records_length, none_in_law, next_line}
-use borrow.Author.Rules.{rules}
 use Rattle.ivtv_reader.proofs.put_by_mask.Goals as goal
+
+-- what a turn of the loop knows: the next set bit is one of the 36, its line is there, and its record fits
+turn : (lines now block : List ℕ) (start mask k rest j : ℕ) → Room lines block start mask
+    → (k ≤ 36) × (rest ≡ mask / 2 ^ k) × (j ≡ count_in mask k) × (now ≡ sets lines 0 (joined (record_in block start mask) k))
+    → (rest ≡ 0 → ⊥)
+    → (k + count_trailing_zeros 64 rest < 36) × (j < 36) × (64 * j + 64 ≤ length now) × (start ≤ 12) × (start + 43 * j + 43 ≤ length block)
+turn lines now block start mask k rest j room i some =
+    let n = k + count_trailing_zeros 64 rest in
+    let b = next_below mask k rest room.bits i.1 some in
+    let q = next_count mask k rest room.bits i.1 some ∙ sym i.2 in
+    let m = next_line mask n j b (next_set mask k rest room.bits i.1 some) q in
+    let z : length now ≡ length lines = ap length i.3 ∙ simp length-sets in (
+      b,
+      omega (arith, m, count_most 36 (bit_on mask)),
+      omega (arith, m, z, room.fits),
+      room.low,
+      omega (arith, m, room.there),
+    )
 
 pub loop-rest-init : goal.loop-rest-init
 unfolding joined count_below
 loop-rest-init c = let a = c.args in (omega arith, sym (div-one a.mask), refl, refl)
 
 pub overflow_mul-to : goal.overflow_mul-to
-overflow_mul-to c = omega (arith, turn c)
+overflow_mul-to c = omega (arith, turn c.args.lines.now c.loop-rest.lines c.args.block.now c.args.start c.args.mask c.loop-rest.k c.loop-rest.rest c.loop-rest.j c.requires c.loop-rest.invariant c.loop-rest-test.true)
 
 pub overflow_add-to : goal.overflow_add-to
-overflow_add-to c = omega (arith, turn c)
+overflow_add-to c = omega (arith, turn c.args.lines.now c.loop-rest.lines c.args.block.now c.args.start c.args.mask c.loop-rest.k c.loop-rest.rest c.loop-rest.j c.requires c.loop-rest.invariant c.loop-rest-test.true)
 
 pub returns-then-lines-to : goal.returns-then-lines-to
-returns-then-lines-to c = absurd (omega (arith, turn c))
+returns-then-lines-to c = absurd (omega (arith, turn c.args.lines.now c.loop-rest.lines c.args.block.now c.args.start c.args.mask c.loop-rest.k c.loop-rest.rest c.loop-rest.j c.requires c.loop-rest.invariant c.loop-rest-test.true))
 
 pub slice_bounds-put_record-end : goal.slice_bounds-put_record-end
-slice_bounds-put_record-end c = omega (arith, turn c)
+slice_bounds-put_record-end c = omega (arith, turn c.args.lines.now c.loop-rest.lines c.args.block.now c.args.start c.args.mask c.loop-rest.k c.loop-rest.rest c.loop-rest.j c.requires c.loop-rest.invariant c.loop-rest-test.true)
 
 pub overflow_shr-rest : goal.overflow_shr-rest
-overflow_shr-rest c = omega (arith, turn c)
+overflow_shr-rest c = omega (arith, turn c.args.lines.now c.loop-rest.lines c.args.block.now c.args.start c.args.mask c.loop-rest.k c.loop-rest.rest c.loop-rest.j c.requires c.loop-rest.invariant c.loop-rest-test.true)
 
 pub loop-rest-preserved : goal.loop-rest-preserved
 loop-rest-preserved c =
@@ -52,10 +69,10 @@ loop-rest-preserved c =
     let x : l.lines ≡ sets a.lines.now 0 (joined f n) = rw j l.invariant.3 in
     let y : 64 * l.j ≡ 0 + length (joined f n) = omega (arith, q, records_length v a.start a.mask n) in
     let w : f n ≡ record_of n (line_at v a.start l.j) = rw (s, q) in (
-      omega (arith, turn c),
+      omega (arith, turn c.args.lines.now c.loop-rest.lines c.args.block.now c.args.start c.args.mask c.loop-rest.k c.loop-rest.rest c.loop-rest.j c.requires c.loop-rest.invariant c.loop-rest-test.true),
       refl,
       sym (count_more n (bit_on a.mask) ∙ rw (s, q)),
-      stored_more a.lines.now l.lines r.new.0 f 0 (64 * l.j) n x y (rw w (r.ensures ∙ rw (cut v a.start l.j))),
+      stored_more a.lines.now l.lines r.new.lines f 0 (64 * l.j) n x y (rw w (r.ensures ∙ rw (cut v a.start l.j))),
     )
 
 pub returns : goal.returns
