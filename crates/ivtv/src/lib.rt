@@ -1,4 +1,6 @@
 // Caption lines inside a film: the block of 001's embedded packing, written from records of 64 bytes, and read back. No device is in it.
+#![tactic(auto)]
+
 ghost use Rattle.std.specs.Prelude.{◌≡◌, length};
 ghost use Rattle.ivtv_rules.specs.Writing.{pack_number, packed};
 ghost use Rattle.ivtv_rules.specs.Reading.{unpack_number, unpacked};
