@@ -1,22 +1,21 @@
 -- A machine for each fault. Assumes nothing.
-use mathlib.Core.Path.{◌≡◌, refl, sym, ◌∙◌}
-use mathlib.Core.Logic.{◌≢◌, inl}
-use mathlib.Core.Bool.{true, false}
+use mathlib.Core.Path.{◌≡◌, refl}
+use mathlib.Core.Logic.{inl}
 use mathlib.Core.List.{List, [], ◌∷◌, ◌++◌}
-use Prim.Native.Nat.{ℕ, ◌+◌, ◌-◌, ◌^◌, ◌≤◌, ◌<◌}
+use Prim.Native.Nat.{ℕ, ◌<◌}
 use native.Mathlib.Omega.{arith}
-use lib.ListN.{length, get_or, take, drop, replicate, length-replicate}
-use lib.Seq.{drop_at, take_all}
+use lib.ListN.{length, drop, replicate}
+use lib.Seq.{take_all}
 use Rattle.wire_read.specs.Words.{word_at}
 use Rattle.service_rules.specs.Services.{has}
 use Rattle.service_rules.specs.Negotiation.{count_below}
-use Rattle.ivtv_rules.specs.Services.{service_of, payload_of}
+use Rattle.ivtv_rules.specs.Services.{payload_of}
 use Rattle.ivtv_rules.specs.Lines.{line_of}
-use Rattle.ivtv_rules.specs.Block.{itv0, ITV0}
+use Rattle.ivtv_rules.specs.Block.{itv0}
 use Rattle.ivtv_rules.specs.Writing.{record64}
-use Rattle.ivtv_rules.specs.Reading.{same, mask_in, start_in, count_in}
+use Rattle.ivtv_rules.specs.Reading.{same, mask_in, start_in}
 use Rattle.ivtv_rules.proofs.Stored.{length_line}
-use Rattle.claims_ivtv.specs.Flaws.{mask_words, lines_named, line_start, identifier_at}
+use Rattle.claims_ivtv.specs.Flaws.{lines_named, line_start}
 use Rattle.claims_ivtv.specs.Wrong.{Beyond, GivenOrder, first_first, WrongPackers}
 
 -- a block of one caption line, on line 6 of the first field, whose third byte is not zero; and a byte behind it

@@ -1,5 +1,7 @@
 // What holds of the embedded packing, told from what goes in and what comes out. Nothing runs here: each function is named after a claim, and
 // its contract is the claim. Our machine is made of the definitions that the contracts of `ivtv` cite.
+#![tactic(auto)]
+
 ghost use Rattle.std.specs.Prelude.{◌≡◌, true};
 ghost use Rattle.claims_ivtv.specs.Packer.{our_packer};
 ghost use Rattle.claims_ivtv.specs.Meets.{WriterExact, ReaderExact, ReadBack, WrittenBack, OneBlock, Meets, NoRoom};
