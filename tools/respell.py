@@ -101,9 +101,23 @@ def names_of(commit):
         news = {from_landed.get(old, old) for old in olds}
         if len(news) > 1:
             merged[name] = olds
-        elif news != {name}:
+        elif news != {name} and not name.startswith("◌"):
             from_now[name] = news.pop()
+    for path in lemma_files():
+        for name in within(open(path).read()) - set(kinds):
+            from_now[name] = from_landed[name] = snake(name)
+    from_now["Does-it"] = from_landed["Does-it"] = "DoesIt"
     return from_now, merged, from_landed
+
+
+def within(text):
+    """Names that a file declares inside sections and `where`, which `declared` passes over."""
+    out = set()
+    for line in text.split("\n"):
+        m = re.match(rf"^\s*(?:{WORDS}\s+)*({TOKEN})\s*:(?!=)\s", line)
+        if m and not line.lstrip().startswith("--") and own(m.group(1)):
+            out.add(m.group(1))
+    return out
 
 
 def imported_from_elsewhere(text):

@@ -204,19 +204,19 @@ module _ (s : List ℕ) (good : good_sheet s ≡ true) (d : State) (mem : Kind �
   abbrev box : Box
   box = record { sheet = kept_of s; state = d; memory = mem }
 
-  abbrev Does-it : Asked → Answer → Type 0
-  Does-it call r = r.number ≡ 0 → Answered s (λ k. length (mem k)) d P call a r
+  abbrev DoesIt : Asked → Answer → Type 0
+  DoesIt call r = r.number ≡ 0 → Answered s (λ k. length (mem k)) d P call a r
 
   -- a test that is passed
-  past : (call : Asked) (x : Bool) (why : Refusal) (r : Answer) → (x ≡ false → Does-it call r) → Does-it call (cond x (refused why d a) r)
+  past : (call : Asked) (x : Bool) (why : Refusal) (r : Answer) → (x ≡ false → DoesIt call r) → DoesIt call (cond x (refused why d a) r)
   past call true why r f h = absurd (omega (arith, errno_positive why, h))
   past call false why r f h = f refl h
 
   -- by the type that is named
-  by_type_law : (call : Asked) (x y : Answer) → (word_at a 0 ≡ 1 → Does-it call x) → (word_at a 0 ≡ 6 → Does-it call y) → Does-it call (by_type 0 d a x y)
+  by_type_law : (call : Asked) (x y : Answer) → (word_at a 0 ≡ 1 → DoesIt call x) → (word_at a 0 ≡ 6 → DoesIt call y) → DoesIt call (by_type 0 d a x y)
   by_type_law call x y f g = go (eqb (word_at a 0) 1) refl (eqb (word_at a 0) 6) refl
     where
-      go : (u : Bool) → eqb (word_at a 0) 1 ≡ u → (v : Bool) → eqb (word_at a 0) 6 ≡ v → Does-it call (cond u x (cond v y (refused WrongType d a)))
+      go : (u : Bool) → eqb (word_at a 0) 1 ≡ u → (v : Bool) → eqb (word_at a 0) 6 ≡ v → DoesIt call (cond u x (cond v y (refused WrongType d a)))
       go true e v i = f (eqb-true (word_at a 0) 1 e)
       go false e true i = g (eqb-true (word_at a 0) 6 i)
       go false e false i = λ h. absurd (omega (arith, h))
@@ -246,7 +246,7 @@ module _ (s : List ℕ) (good : good_sheet s ≡ true) (d : State) (mem : Kind �
   told_named : (call : Asked) (b : List ℕ) → type_of k4 ≡ word_at a 4 → request_told k4 (P k4) call a b ≡ cond (eqb (word_at a 4) (type_of k4)) (request_told k4 (P k4) call a b) Event.idle
   told_named call b e = sym (ap (λ (x : Bool). cond x (request_told k4 (P k4) call a b) Event.idle) (eq-eqb (word_at a 4) (type_of k4) (sym e)))
 
-  answered_reqbufs : length a ≡ 20 → Does-it Reqbufs (stream_call reqbufs_of 4 d a)
+  answered_reqbufs : length a ≡ 20 → DoesIt Reqbufs (stream_call reqbufs_of 4 d a)
   answered_reqbufs l h =
       let (n, v) = stream_argument reqbufs_of 4 d a h in
       record {
@@ -256,7 +256,7 @@ module _ (s : List ℕ) (good : good_sheet s ≡ true) (d : State) (mem : Kind �
             ∙ ap₂ (λ (z y : ℕ). buffers_reply (word_at a 4) (grant_of z (word_at a 0) y)) (safe k4).kept.tied.noted (safe k4).kept.tied.size;
       }
 
-  answered_querybuf : length a ≡ 68 → Does-it Querybuf (stream_call querybuf_of 4 d a)
+  answered_querybuf : length a ≡ 68 → DoesIt Querybuf (stream_call querybuf_of 4 d a)
   answered_querybuf l h =
       let (n, v) = stream_argument querybuf_of 4 d a h in
       record {
@@ -265,7 +265,7 @@ module _ (s : List ℕ) (good : good_sheet s ≡ true) (d : State) (mem : Kind �
             ∙ ap₂ buffer_reply (stream_accepted querybuf_of 4 d a h).0 (status_same (view k4 box) (P k4) (safe k4).kept.tied (word_at a 0));
       }
 
-  answered_qbuf : length a ≡ 68 → Does-it Qbuf (stream_call qbuf_of 4 d a)
+  answered_qbuf : length a ≡ 68 → DoesIt Qbuf (stream_call qbuf_of 4 d a)
   answered_qbuf l h =
       let (n, v) = stream_argument qbuf_of 4 d a h in
       let (e, is) = stream_accepted qbuf_of 4 d a h in
@@ -281,7 +281,7 @@ module _ (s : List ℕ) (good : good_sheet s ≡ true) (d : State) (mem : Kind �
         argument = v ∙ qbuf_answers (stream_of k4 d) (type_of k4) (size_of k4 d) a l n ∙ ap₂ buffer_reply e (status_same w (step (P k4) (put (word_at a 0))) t (word_at a 0));
       }
 
-  answered_dqbuf : length a ≡ 68 → Does-it Dqbuf (stream_call dqbuf_of 4 d a)
+  answered_dqbuf : length a ≡ 68 → DoesIt Dqbuf (stream_call dqbuf_of 4 d a)
   answered_dqbuf l h =
       let e = (stream_accepted dqbuf_of 4 d a h).0 in
       let g : Does k4 box (P k4) Dqbuf a (stream_call dqbuf_of 4 d a) = does_call k4 box (P k4) a (safe k4) Dqbuf l in
@@ -292,10 +292,10 @@ module _ (s : List ℕ) (good : good_sheet s ≡ true) (d : State) (mem : Kind �
       let same : (stream_call dqbuf_of 4 d a).argument ≡ buffer_reply (type_of k4) (returned_of (P k4).maps (first_on (P k4).outgoing) (P k4).size) = cc q in
       record { desk = stream_desk dqbuf_of 4; argument = same ∙ ap (λ (t : ℕ). buffer_reply t (returned_of (P k4).maps (first_on (P k4).outgoing) (P k4).size)) e }
 
-  answered_read : length a ≡ 8 → Does-it GCtrl (g_ctrl_of (kept_of s) d a)
+  answered_read : length a ≡ 8 → DoesIt GCtrl (g_ctrl_of (kept_of s) d a)
   unfolding g_ctrl_of reading reading_at
   answered_read l =
-      subst (λ (x : Reading). Does-it GCtrl (read_as x (word_at a 0) d a)) (sym (kept_reading s good d.values (word_at a 0)))
+      subst (λ (x : Reading). DoesIt GCtrl (read_as x (word_at a 0) d a)) (sym (kept_reading s good d.values (word_at a 0)))
       (go (leb (present s) (place_of s (word_at a 0))) (eqb ((named s a).flags % 2) 1) (eqb (named s a).kind 4))
     where
       v : ℕ
@@ -304,16 +304,16 @@ module _ (s : List ℕ) (good : good_sheet s ≡ true) (d : State) (mem : Kind �
       r : Bool → Bool → Bool → Reading
       r x y z = cond x (reads.Refused NoSuchControl) (cond y (reads.Refused ControlDisabled) (cond z (reads.Refused ControlIsButton) (reads.Value (get_or d.values (place_of s (word_at a 0)) 0))))
 
-      go : (x y z : Bool) → Does-it GCtrl (read_as (r x y z) (word_at a 0) d a)
+      go : (x y z : Bool) → DoesIt GCtrl (read_as (r x y z) (word_at a 0) d a)
       go true y z h = absurd (omega (arith, h))
       go false true z h = absurd (omega (arith, h))
       go false false true h = absurd (omega (arith, h))
       go false false false h = record { desk = refl; argument = whole_reply a (value_reply (word_at a 0) v) 8 l (value_length (word_at a 0) v) }
 
-  answered_set : length a ≡ 8 → Does-it SCtrl (s_ctrl_of (kept_of s) d a)
+  answered_set : length a ≡ 8 → DoesIt SCtrl (s_ctrl_of (kept_of s) d a)
   unfolding s_ctrl_of setting_of setting_at ranged_at
   answered_set l =
-      subst (λ (x : Setting). Does-it SCtrl (set_as x (word_at a 0) d a)) (sym (kept_setting s good (word_at a 0) (word_at a 4)))
+      subst (λ (x : Setting). DoesIt SCtrl (set_as x (word_at a 0) d a)) (sym (kept_setting s good (word_at a 0) (word_at a 4)))
       λ h. let (x, y) = go (leb (present s) (place_of s (word_at a 0))) (eqb ((named s a).flags % 2) 1) (eqb ((named s a).flags / 4 % 2) 1) (eqb ((named s a).flags / 2 % 2) 1) (eqb (named s a).kind 4)
       (lt_z (signed (word_at a 4)) (named s a).limits.minimum) (lt_z (named s a).limits.maximum (signed (word_at a 4))) h in
       record { desk = x; argument = y }
@@ -337,7 +337,7 @@ module _ (s : List ℕ) (good : good_sheet s ≡ true) (d : State) (mem : Kind �
       go false false false false false false true h = absurd (omega (arith, h))
       go false false false false false false false h = (refl, whole_reply a (value_reply (word_at a 0) (value_on s a)) 8 l (value_length (word_at a 0) (value_on s a)))
 
-  answered_control : length a ≡ 68 → Does-it Queryctrl (queryctrl_of (kept_of s) d a)
+  answered_control : length a ≡ 68 → DoesIt Queryctrl (queryctrl_of (kept_of s) d a)
   unfolding queryctrl_of present
   answered_control l = past Queryctrl (leb (present (kept_of s)) (queried_place (kept_of s) (word_at a 0))) NoSuchControl _ λ e h.
       let k : ℕ = queried_place s (word_at a 0) in
@@ -355,7 +355,7 @@ module _ (s : List ℕ) (good : good_sheet s ≡ true) (d : State) (mem : Kind �
   own_format : format_reply 1 d.format d.line d.size ≡ told_format s d.format
   own_format = rw ((safe Kind.pictures).sized.0, (safe Kind.pictures).sized.1, kept_alignment s (short s good))
 
-  answered_g_fmt : length a ≡ 204 → Does-it GFmt (call_answer GFmt (kept_of s) d a)
+  answered_g_fmt : length a ≡ 204 → DoesIt GFmt (call_answer GFmt (kept_of s) d a)
   unfolding g_fmt_of g_services_of
   answered_g_fmt l = by_type_law GFmt _ _
       (λ e h. record {
@@ -376,7 +376,7 @@ module _ (s : List ℕ) (good : good_sheet s ≡ true) (d : State) (mem : Kind �
   told_lines_whole : length a ≡ 204 → sets a 0 (services_reply 6 (asked_services a)) ≡ services_reply 6 (asked_services a)
   told_lines_whole l = whole_reply a (services_reply 6 (asked_services a)) 204 l (services_length 6 (asked_services a))
 
-  answered_s_fmt : length a ≡ 204 → Does-it SFmt (call_answer SFmt (kept_of s) d a)
+  answered_s_fmt : length a ≡ 204 → DoesIt SFmt (call_answer SFmt (kept_of s) d a)
   unfolding s_fmt_of s_services_of
   answered_s_fmt l = by_type_law SFmt _ _
       (λ e. past SFmt (not (eqb d.video.queues.granted 0)) BuffersExist _ λ f h. record {
@@ -386,7 +386,7 @@ module _ (s : List ℕ) (good : good_sheet s ≡ true) (d : State) (mem : Kind �
       })
       (λ e. go e (not (eqb d.captions.queues.granted 0)))
     where
-      go : word_at a 0 ≡ 6 → (x : Bool) → Does-it SFmt (by_services d (cond x (record { number = errno_of BuffersExist; lines = d.services; argument = a }) (record { number = 0; lines = asked_services a; argument = sets a 0 (services_reply 6 (asked_services a)) })))
+      go : word_at a 0 ≡ 6 → (x : Bool) → DoesIt SFmt (by_services d (cond x (record { number = errno_of BuffersExist; lines = d.services; argument = a }) (record { number = 0; lines = asked_services a; argument = sets a 0 (services_reply 6 (asked_services a)) })))
       go e true h = absurd (omega (arith, h))
       go e false h = record {
         desk = ap (λ (z : List ℕ). record { format = d.format; crop = d.crop; values = d.values; services = z })
@@ -395,21 +395,21 @@ module _ (s : List ℕ) (good : good_sheet s ≡ true) (d : State) (mem : Kind �
         argument = told_lines_whole l ∙ sym (of_captions (services_reply 6 (asked_services a)) (told_format s (negotiated s (asked_format a))) e);
       }
 
-  answered_try_fmt : length a ≡ 204 → Does-it TryFmt (call_answer TryFmt (kept_of s) d a)
+  answered_try_fmt : length a ≡ 204 → DoesIt TryFmt (call_answer TryFmt (kept_of s) d a)
   unfolding try_fmt_of try_services_of
   answered_try_fmt l = by_type_law TryFmt _ _
       (λ e h. record { desk = refl; argument = told_picture l ∙ sym (of_pictures (services_reply 6 (asked_services a)) (told_format s (negotiated s (asked_format a))) e) })
       (λ e h. record { desk = refl; argument = told_lines_whole l ∙ sym (of_captions (services_reply 6 (asked_services a)) (told_format s (negotiated s (asked_format a))) e) })
 
-  answered_services : length a ≡ 116 → Does-it GSlicedVbiCap (call_answer GSlicedVbiCap (kept_of s) d a)
+  answered_services : length a ≡ 116 → DoesIt GSlicedVbiCap (call_answer GSlicedVbiCap (kept_of s) d a)
   unfolding services_capability_of
   answered_services l = go (not (eqb (word_at a 100) 6))
     where
-      go : (x : Bool) → Does-it GSlicedVbiCap (by_services d (cond x (record { number = errno_of WrongType; lines = d.services; argument = a }) (record { number = 0; lines = d.services; argument = sets a 0 (services_capability_reply 6) })))
+      go : (x : Bool) → DoesIt GSlicedVbiCap (by_services d (cond x (record { number = errno_of WrongType; lines = d.services; argument = a }) (record { number = 0; lines = d.services; argument = sets a 0 (services_capability_reply 6) })))
       go true h = absurd (omega (arith, h))
       go false h = record { desk = refl; argument = whole_reply a (services_capability_reply 6) 116 l (services-capability-length 6) }
 
-  answers_call : (call : Asked) → length a ≡ argument_size call → Does-it call (call_answer call (kept_of s) d a)
+  answers_call : (call : Asked) → length a ≡ argument_size call → DoesIt call (call_answer call (kept_of s) d a)
   unfolding querycap_of enum_fmt_of cropcap_of g_crop_of s_crop_of streamon_of streamoff_of
   answers_call Unknown l = λ h. absurd (omega (arith, h))
   answers_call Querycap l = λ h. record { desk = refl; argument = whole_reply a (capability_reply (kept_of s)) 104 l (capability_length (kept_of s)) ∙ kept_capability s good }

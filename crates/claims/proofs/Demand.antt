@@ -37,7 +37,7 @@ use Rattle.stream_history.proofs.Sound.{Fits, sound_blank}
 use Rattle.stream_history.proofs.Rising.{Ordered, ordered_after, ordered_blank}
 use Rattle.stream_history.proofs.Tied.{Tied, Held, entry, placed_as, first_of}
 use Rattle.stream_history.proofs.Order.{At, Leaves, pair_of, comes_first, leaves}
-use Rattle.stream_history.proofs.Machine.{leaves_append, noted_tells, Cut, cut, keeps-after, legal-tells}
+use Rattle.stream_history.proofs.Machine.{leaves_append, noted_tells, Cut, cut, keeps_after, legal_tells}
 use Rattle.stream_history.proofs.InOrder.{is_whole, never}
 use Rattle.stream_history.proofs.Meanings.{Means, exactly}
 use Rattle.claims.specs.Calls.Call.{request, arrival, change}
@@ -208,7 +208,7 @@ module _ (kd : Kind) where
   -- ---- from the moment that k is handed in
 
   pub safe_after : (cs : List Call) (b : Box) (p : Paper) → Safe kd b p → Safe kd (after b cs) (noted p (events kd b p cs))
-  safe_after = keeps-after seen next (told kd) (Safe kd) (safe_next kd)
+  safe_after = keeps_after seen next (told kd) (Safe kd) (safe_next kd)
 
   stores_at : (b : Box) (p : Paper) (k : ℕ) (mid : List Call) (f : List ℕ) (x y : ℕ) (other : List ℕ) → Safe kd b (step p (put k))
       → Calm (events kd b (step p (put k)) mid) → wholes (events kd b (step p (put k)) mid) ≡ length p.incoming
@@ -235,13 +235,13 @@ module _ (kd : Kind) where
       → (request_of v).call ≡ Dqbuf → word_at c 4 ≡ type_of kd → reply (after b mid) (request v c) ≡ answered 0 a → ComesBack b (step p (put k)) k mid a (length p.incoming)
   unfolding arrival_of_law
   returns_at b p k mid v c a s calm n w d h =
-      go (leaves p k (events kd b (step p (put k)) mid) calm (legal-tells seen next (told kd) (Safe kd) (safe_next kd) (fits_next kd) mid b (step p (put k)) s) (some_handed (after b mid) now-paper v c a now-safe w d h) n)
+      go (leaves p k (events kd b (step p (put k)) mid) calm (legal_tells seen next (told kd) (Safe kd) (safe_next kd) (fits_next kd) mid b (step p (put k)) s) (some_handed (after b mid) now_paper v c a now_safe w d h) n)
     where
-      now-paper : Paper
-      now-paper = noted (step p (put k)) (events kd b (step p (put k)) mid)
+      now_paper : Paper
+      now_paper = noted (step p (put k)) (events kd b (step p (put k)) mid)
 
-      now-safe : Safe kd (after b mid) (noted (step p (put k)) (events kd b (step p (put k)) mid))
-      now-safe = safe_after mid b (step p (put k)) s
+      now_safe : Safe kd (after b mid) (noted (step p (put k)) (events kd b (step p (put k)) mid))
+      now_safe = safe_after mid b (step p (put k)) s
 
       go : Leaves p k (events kd b (step p (put k)) mid) → ComesBack b (step p (put k)) k mid a (length p.incoming)
       go l =
@@ -249,8 +249,8 @@ module _ (kd : Kind) where
           let t : Cut seen next (told kd) b q mid l.at.front (whole l.at.bytes l.at.time) =
           cut seen next (told kd) mid b q l.at.front (whole l.at.bytes l.at.time) l.at.back l.at.is in
           let y : IsArrival t.call l.at.bytes l.at.time = whole_call (after b t.fore) (noted q (events kd b q t.fore)) t.call l.at.bytes l.at.time t.tells_call in
-          let z : Says (after b mid) now-paper (pair_of k (noted q l.at.front) l.at.bytes l.at.time) a =
-          returned_now (after b mid) now-paper (pair_of k (noted q l.at.front) l.at.bytes l.at.time) l.behind v c a now-safe l.first w d h in (
+          let z : Says (after b mid) now_paper (pair_of k (noted q l.at.front) l.at.bytes l.at.time) a =
+          returned_now (after b mid) now_paper (pair_of k (noted q l.at.front) l.at.bytes l.at.time) l.behind v c a now_safe l.first w d h in (
             arrival_of_law b q mid (length p.incoming) l.at t y,
             z.index,
             z.number ∙ ap (λ (es : List Event). reduced (noted q es).run.accepted) (sym t.tells_front),
@@ -304,10 +304,10 @@ module _ (s : List ℕ) (m : Kind → List ℕ) (kd : Kind) (start : Safe kd (op
   ordered_at : (cs : List Call) → Ordered (paper_after s m kd cs) (handed_after s m kd cs)
   ordered_at cs =
       ordered_after (events kd (opened s m) (blank (opening_size s kd)) cs) (blank (opening_size s kd)) [] (sound_blank (opening_size s kd))
-      (legal-tells seen next (told kd) (Safe kd) (safe_next kd) (fits_next kd) cs (opened s m) (blank (opening_size s kd)) start) (ordered_blank (opening_size s kd))
+      (legal_tells seen next (told kd) (Safe kd) (safe_next kd) (fits_next kd) cs (opened s m) (blank (opening_size s kd)) start) (ordered_blank (opening_size s kd))
 
-  open-verdict : (cs : List Call) (v : Verdict) → (device_verdict (box_after s m cs).state (type_of kd) ≡ v) ⇔ Means (paper_after s m kd cs) (handed_after s m kd cs) v
-  open-verdict cs v =
+  open_verdict : (cs : List Call) (v : Verdict) → (device_verdict (box_after s m cs).state (type_of kd) ≡ v) ⇔ Means (paper_after s m kd cs) (handed_after s m kd cs) v
+  open_verdict cs v =
       subst (λ (z : Verdict). (z ≡ v) ⇔ Means (paper_after s m kd cs) (handed_after s m kd cs) v) (sym (verdict_of_law kd (box_after s m cs).state (safe_at cs).ready))
       (exactly (view kd (box_after s m cs)) (paper_after s m kd cs) (handed_after s m kd cs) (safe_at cs).kept (ordered_at cs) v)
 
@@ -357,7 +357,7 @@ pub verdict_means : (s : List ℕ) (m : Kind → List ℕ) (kd : Kind) (cs : Lis
 verdict_means s m kd cs v = go (begins s m)
   where
     go : Begun s m → (device_verdict (box_after s m cs).state (type_of kd) ≡ v) ⇔ Means (paper_after s m kd cs) (handed_after s m kd cs) v
-    go (Begun.safe x) = open-verdict s m kd (x kd) cs v
+    go (Begun.safe x) = open_verdict s m kd (x kd) cs v
     go (Begun.shut x) = shut_verdict s m kd x cs v
 
 -- for every QBUF both halves hold

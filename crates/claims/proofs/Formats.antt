@@ -157,27 +157,27 @@ got_set s d u g a b eu eg eq h k =
     e : State
     e = (request_answer s d u a).state
 
-    sets-is : request_answer s d u a ≡ call_answer SFmt s d a
-    sets-is = (reached s d u a h).is ∙ ap (λ (call : Call). call_answer call s d a) eu
+    sets_is : request_answer s d u a ≡ call_answer SFmt s d a
+    sets_is = (reached s d u a h).is ∙ ap (λ (call : Call). call_answer call s d a) eu
 
-    gets-is : request_answer s e g b ≡ call_answer GFmt s e b
-    gets-is = (reached s e g b k).is ∙ ap (λ (call : Call). call_answer call s e b) eg
+    gets_is : request_answer s e g b ≡ call_answer GFmt s e b
+    gets_is = (reached s e g b k).is ∙ ap (λ (call : Call). call_answer call s e b) eg
 
     ok : (call_answer SFmt s d a).number ≡ 0
-    ok = ap (λ (r : Answer). r.number) (sym sets-is) ∙ h
+    ok = ap (λ (r : Answer). r.number) (sym sets_is) ∙ h
 
-    long-a : length a ≡ 204
-    long-a = (reached s d u a h).long ∙ ap argument_size eu
+    long_a : length a ≡ 204
+    long_a = (reached s d u a h).long ∙ ap argument_size eu
 
-    long-b : length b ≡ 204
-    long-b = (reached s e g b k).long ∙ ap argument_size eg
+    long_b : length b ≡ 204
+    long_b = (reached s e g b k).long ∙ ap argument_size eg
 
     -- the same bytes all over both arguments
     same : (v : List ℕ) → length v ≡ 204 → (r : Answer) → r.argument ≡ sets a 0 v → call_answer SFmt s d a ≡ r → (call_answer GFmt s r.state b).argument ≡ sets b 0 v
         → (request_answer s e g b).argument ≡ (request_answer s d u a).argument
     same v l r f x y =
-        ap (λ (q : Answer). q.argument) gets-is
-        ∙ ap (λ (q : Answer). (call_answer GFmt s q.state b).argument) (sets-is ∙ x)
+        ap (λ (q : Answer). q.argument) gets_is
+        ∙ ap (λ (q : Answer). (call_answer GFmt s q.state b).argument) (sets_is ∙ x)
         ∙ y
-        ∙ sets_all v b (long-b ∙ sym l)
-        ∙ sym (ap (λ (q : Answer). q.argument) (sets-is ∙ x) ∙ f ∙ sets_all v a (long-a ∙ sym l))
+        ∙ sets_all v b (long_b ∙ sym l)
+        ∙ sym (ap (λ (q : Answer). q.argument) (sets_is ∙ x) ∙ f ∙ sets_all v a (long_a ∙ sym l))

@@ -40,7 +40,7 @@ use Rattle.buffer_calls.specs.Buffers.{StreamAnswer, reqbufs_of, querybuf_of}
 use Rattle.queue_calls.specs.Queues.{qbuf_of}
 use Rattle.dequeue_calls.specs.Dequeues.{dqbuf_of}
 use Rattle.run_calls.specs.Runs.{streamon_of, streamoff_of}
-use Rattle.run_calls.proofs.Refused.{HonestStream, reqbufs-honest, querybuf-honest, qbuf-honest, dqbuf-honest, streamon-honest, streamoff-honest}
+use Rattle.run_calls.proofs.Refused.{HonestStream, reqbufs_honest, querybuf_honest, qbuf_honest, dqbuf_honest, streamon_honest, streamoff_honest}
 use Rattle.request_topics.specs.Request.{by_video, by_captions, by_services, stream_call, call_answer, request_answer}
 
 -- a refusal changes nothing, and the argument keeps its length
@@ -107,12 +107,12 @@ module _ (d : State) (a : List ℕ) where
       (honest_check (not (eqb d.video.queues.granted 0)) BuffersExist _ (honest_done (with_format s d (negotiated s (asked_format a))) (told_format s (negotiated s (asked_format a)))))
       (honest_services (not (eqb d.captions.queues.granted 0)) BuffersExist _ (honest_done (with_services d (asked_services a)) (services_reply 6 (asked_services a))))
   honest_call s TryFmt = honest_type 0 _ _ (honest_done d (told_format s (negotiated s (asked_format a)))) (honest_done d (services_reply 6 (asked_services a)))
-  honest_call s Reqbufs = honest_stream reqbufs_of 4 (λ t. reqbufs-honest t a)
-  honest_call s Querybuf = honest_stream querybuf_of 4 (λ t. querybuf-honest t a)
-  honest_call s Qbuf = honest_stream qbuf_of 4 (λ t. qbuf-honest t a)
-  honest_call s Dqbuf = honest_stream dqbuf_of 4 (λ t. dqbuf-honest t a)
-  honest_call s Streamon = honest_stream streamon_of 0 (λ t. streamon-honest t a)
-  honest_call s Streamoff = honest_stream streamoff_of 0 (λ t. streamoff-honest t a)
+  honest_call s Reqbufs = honest_stream reqbufs_of 4 (λ t. reqbufs_honest t a)
+  honest_call s Querybuf = honest_stream querybuf_of 4 (λ t. querybuf_honest t a)
+  honest_call s Qbuf = honest_stream qbuf_of 4 (λ t. qbuf_honest t a)
+  honest_call s Dqbuf = honest_stream dqbuf_of 4 (λ t. dqbuf_honest t a)
+  honest_call s Streamon = honest_stream streamon_of 0 (λ t. streamon_honest t a)
+  honest_call s Streamoff = honest_stream streamoff_of 0 (λ t. streamoff_honest t a)
   honest_call s GCtrl = honest_read (reading s d.values (word_at a 0)) (word_at a 0)
   honest_call s SCtrl = honest_set (setting_of s (word_at a 0) (word_at a 4)) (word_at a 0)
   honest_call s Queryctrl = honest_check (leb (present s) (queried_place s (word_at a 0))) NoSuchControl _ (honest_done d (control_reply s (queried_place s (word_at a 0))))

@@ -13,7 +13,7 @@ use Rattle.device_opening.specs.Opening.{Opened, longest_memory, closed_by, open
 use Rattle.device_film.specs.Film.{taken_memory, device_verdict}
 use Rattle.device_planes.specs.Planes.{device_place}
 use Rattle.stream_history.specs.Paper.{Paper, Event, blank, step, noted}
-use Rattle.stream_history.proofs.Machine.{leaves_append, keeps-after}
+use Rattle.stream_history.proofs.Machine.{leaves_append, keeps_after}
 use Rattle.claims.specs.Calls.{Kind, Call, arrival_time}
 use Rattle.claims.specs.Calls.{Reply}
 use Rattle.claims.specs.Calls.Call.{request, arrival, change}
@@ -105,5 +105,5 @@ since s m cs = go (good_sheet s) refl (ltb longest_memory (length (m Kind.pictur
     go true e false f false g =
         let o : opened_by s m ≡ good_opening s m = opening_by s m true false false e f g in
         good e (ap (λ (v : Opened). v.number) o)
-        (λ k. keeps-after seen next (told k) (Stands s m k) (stands_next s m k) cs (opened s m) (blank (opening_size s k))
+        (λ k. keeps_after seen next (told k) (Stands s m k) (stands_next s m k) cs (opened s m) (blank (opening_size s k))
         (subst (λ (v : Opened). Stands s m k (box_of v m) (blank (opening_size s k))) (sym o) (record { safe = good_safe s m e f g k; sheet = refl; long = refl })))

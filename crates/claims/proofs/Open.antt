@@ -271,8 +271,8 @@ module _ (k : Kind) (b : Box) (p : Paper) (safe : Safe k b p) (c : Change) where
 
   module _ (o l : ℕ) where
     -- of its own type
-    turns-own : Goes k b p (change c (type_of k) o l)
-    turns-own =
+    turns_own : Goes k b p (change c (type_of k) o l)
+    turns_own =
         let d : State = b.state in
         let r : Step = turned k c d o l in
         let h = follows (view k b) p (turns c o l) safe.kept.tied safe.kept.sound in
@@ -284,8 +284,8 @@ module _ (k : Kind) (b : Box) (p : Paper) (safe : Safe k b p) (c : Change) where
               ∙ ap (λ (z : Mapped). cond (eqb z.number 0) (changed c (buffer_at p.size o)) idle) is
               ∙ by_number r.reply (changed c (buffer_at p.size o));
           fits = subst (Fits p) (sym h.tells) h.fits;
-          foretold = foretold-by (refused_reply r.reply);
-          timely = timely-by (refused_reply r.reply);
+          foretold = foretold_by (refused_reply r.reply);
+          timely = timely_by (refused_reply r.reply);
           ready = ap (λ (z : Setup). eqb z.ready 0) (mapped_chosen c d (type_of k) o l).0 ∙ safe.ready;
           tied = subst (λ (w : World). Tied w (step p event)) (sym (turned_view (type_of k) o l r.stream (ap (λ (z : Mapped). stream_of k z.state) is ∙ kind_stream k d r.stream)))
               (subst (λ (e : Event). Tied (record { stream = r.stream; size = size_of k d; memory = b.memory k }) (step p e)) (sym h.tells) h.tied);
@@ -293,17 +293,17 @@ module _ (k : Kind) (b : Box) (p : Paper) (safe : Safe k b p) (c : Change) where
           long = refl;
         }
       where
-        foretold-by : (x : Bool) → Foretold k p (cond x idle (changed c (buffer_at p.size o))) (numbered (mapped_of c b.state (type_of k) o l).number)
-        foretold-by true = tt
-        foretold-by false = tt
+        foretold_by : (x : Bool) → Foretold k p (cond x idle (changed c (buffer_at p.size o))) (numbered (mapped_of c b.state (type_of k) o l).number)
+        foretold_by true = tt
+        foretold_by false = tt
 
-        timely-by : (x : Bool) → Timely (cond x idle (changed c (buffer_at p.size o)))
-        timely-by true = tt
-        timely-by false = tt
+        timely_by : (x : Bool) → Timely (cond x idle (changed c (buffer_at p.size o)))
+        timely_by true = tt
+        timely_by false = tt
 
     -- of another
-    turns-other : (t : ℕ) → eqb t (type_of k) ≡ false → Goes k b p (change c t o l)
-    turns-other t n =
+    turns_other : (t : ℕ) → eqb t (type_of k) ≡ false → Goes k b p (change c t o l)
+    turns_other t n =
         let d : State = b.state in
         record {
           event = idle;
@@ -341,8 +341,8 @@ goes k b p (arrival t f x y other) safe = go (eqb t (type_of k)) refl
 goes k b p (change c t o l) safe = go (eqb t (type_of k)) refl
   where
     go : (v : Bool) → eqb t (type_of k) ≡ v → Goes k b p (change c t o l)
-    go true e = subst (λ (n : ℕ). Goes k b p (change c n o l)) (sym (eqb-true t (type_of k) e)) (turns-own k b p safe c o l)
-    go false e = turns-other k b p safe c o l t e
+    go true e = subst (λ (n : ℕ). Goes k b p (change c n o l)) (sym (eqb-true t (type_of k) e)) (turns_own k b p safe c o l)
+    go false e = turns_other k b p safe c o l t e
 
 timed_filled : (i : List ℕ) (g : Frame) (o : List Pair) → All (λ x. Timed x.frame.time) o → Timed g.time → All (λ x. Timed x.frame.time) (filled i g o)
 timed_filled [] g o a t = a

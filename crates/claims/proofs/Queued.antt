@@ -97,8 +97,8 @@ module _ (s : List ℕ) (m : Kind → List ℕ) (k : Kind) where
   same_handed cs = ap (handed_over (blank (opening_size s k)) []) (same_events s m k cs [] (blank (opening_size s k)))
 
   module _ (before : List Call) (w : ℕ) (a : List ℕ) (mid : List Call) where
-    same-since : since s (ours s m) k before w a mid ≡ boxes.since s m k before w a mid
-    same-since =
+    same_since : since s (ours s m) k before w a mid ≡ boxes.since s m k before w a mid
+    same_since =
         ap (λ (p : Paper). events_in s (ours s m) k (more before (request w a)) p mid) (same_paper s m k (more before (request w a)))
         ∙ same_events s m k mid (more before (request w a)) (paper_after s m k (more before (request w a)))
 
@@ -110,8 +110,8 @@ module _ (s : List ℕ) (m : Kind → List ℕ) (k : Kind) where
     stored f x y other (e, nm, n, c) i h =
         let cs : List Call = before ++ request w a ∷ mid in
         let v : Call = arrival (type_of k) f x y other in
-        let (p, q) = (demand_3 s m k before w a mid).0 f x y other (e, nm, was n, rw same-since at c)
-        (ap wholes (sym same-since) ∙ i ∙ ap (λ (p : Paper). length p.incoming) (same_paper s m k before))
+        let (p, q) = (demand_3 s m k before w a mid).0 f x y other (e, nm, was n, rw same_since at c)
+        (ap wholes (sym same_since) ∙ i ∙ ap (λ (p : Paper). length p.incoming) (same_paper s m k before))
         (sym (ap₂ (λ (p : Paper) (z : Reply × List ℕ). told k p v z) (same_paper s m k cs) (same_seen s m cs v)) ∙ h) in (
           untaken p ∙ ap (λ (p : Paper). Stored (word_at a 0) (reduced p.run.accepted)) (sym (same_paper s m k cs)),
           ap (λ (p : Paper). take (length f) (drop (slot_offset (word_at a 0) p.size) ((box_after s m (more cs v)).memory k))) (same_paper s m k cs)
@@ -146,8 +146,8 @@ module _ (s : List ℕ) (m : Kind → List ℕ) (k : Kind) where
         let cs : List Call = before ++ request w a ∷ mid in
         let i : length (paper_in s (ours s m) k before).incoming ≡ length (paper_after s m k before).incoming = ap (λ (p : Paper). length p.incoming) (same_paper s m k before) in
         let o : length (paper_in s (ours s m) k before).outgoing ≡ length (paper_after s m k before).outgoing = ap (λ (p : Paper). length p.outgoing) (same_paper s m k before) in
-        let (r, x1, x2, x3, x4, x5, x6) = (demand_3 s m k before w a mid).1 v c (asks (box_after s m cs) v c).argument (e, nm, was n, rw same-since at j)
-        (ap dequeues (sym same-since) ∙ d ∙ omega (arith, i, o)) q dn (ap (λ (l : ℕ). answered l (asks (box_after s m cs) v c).argument) z) in
+        let (r, x1, x2, x3, x4, x5, x6) = (demand_3 s m k before w a mid).1 v c (asks (box_after s m cs) v c).argument (e, nm, was n, rw same_since at j)
+        (ap dequeues (sym same_since) ∙ d ∙ omega (arith, i, o)) q dn (ap (λ (l : ℕ). answered l (asks (box_after s m cs) v c).argument) z) in
         subst (λ (n : ℕ). (r : Comes s (ours s m) k (more before (request w a)) mid n)
         × (word_at (asks (box_after s m cs) v c).argument 0 ≡ word_at a 0)
         × (word_at (asks (box_after s m cs) v c).argument 44 ≡ reduced (paper_in s (ours s m) k (before ++ request w a ∷ r.front)).run.accepted)
@@ -191,12 +191,12 @@ module _ (s : List ℕ) (m : Kind → List ℕ) (k : Kind) where
       b : Box
       b = box_after s m cs
 
-      long-is : (arrives (box_after s m cs) (type_of k) f x y other).arrival ≡ (taken_of (box_after s m cs).state (type_of k) (length other) f (arrival_time x y)).arrival
-      long-is = ap (λ (l : ℕ). (taken_of (box_after s m cs).state (type_of k) l f (arrival_time x y)).arrival) (lent_long (box_after s m cs).memory (type_of k) other)
+      long_is : (arrives (box_after s m cs) (type_of k) f x y other).arrival ≡ (taken_of (box_after s m cs).state (type_of k) (length other) f (arrival_time x y)).arrival
+      long_is = ap (λ (l : ℕ). (taken_of (box_after s m cs).state (type_of k) l f (arrival_time x y)).arrival) (lent_long (box_after s m cs).memory (type_of k) other)
 
       go : Since s m cs → written_by (arrives (box_after s m cs) (type_of k) f x y other).arrival n z f ≡ z
-      go (Since.good g u t) = rw (long-is, refused_length k (box_after s m cs).state (length other) f (arrival_time x y) (t k).safe.ready (ap (eqb (length other)) (t k).safe.kept.tied.noted ∙ e))
-      go (Since.bad u d p) = rw (long-is, closed cs (length other) f x y d)
+      go (Since.good g u t) = rw (long_is, refused_length k (box_after s m cs).state (length other) f (arrival_time x y) (t k).safe.ready (ap (eqb (length other)) (t k).safe.kept.tied.noted ∙ e))
+      go (Since.bad u d p) = rw (long_is, closed cs (length other) f x y d)
 
   writes : (cs : List Call) (f : List ℕ) (x y : ℕ) (other : List ℕ)
       → (ours s m).memory k (more cs (arrival (type_of k) f x y other)) ≡ written_by ((ours s m).arrival cs (type_of k) f x y other) (paper_in s (ours s m) k cs).size ((ours s m).memory k cs) f

@@ -27,7 +27,7 @@ use Rattle.stream_history.specs.Paper.{Event, changes, Paper, blank, step, noted
 use Rattle.stream_history.specs.Paper.Event.{idle}
 use Rattle.stream_history.proofs.Sound.{sound_blank}
 use Rattle.stream_history.proofs.Tied.{tied_opened}
-use Rattle.stream_history.proofs.Machine.{keeps-after}
+use Rattle.stream_history.proofs.Machine.{keeps_after}
 use Rattle.claims.specs.Calls.Call.{request, arrival, change}
 use Rattle.claims.specs.Calls.{Reply}
 use Rattle.claims.specs.Calls.Reply.{answered}
@@ -63,7 +63,7 @@ shut_next k b p (change c t o l) h = (rw h, rw h)
 
 -- after any calls it is as it was, and the paper too
 pub shut_after : (k : Kind) (cs : List Call) (b : Box) (p : Paper) → Shut b → ((after b cs).state ≡ b.state) × (noted p (events k b p cs) ≡ p)
-shut_after k cs b p h = keeps-after seen next (told k) Same same cs b p (refl, refl)
+shut_after k cs b p h = keeps_after seen next (told k) Same same cs b p (refl, refl)
   where
     Same : Box → Paper → Type 0
     Same c q = (c.state ≡ b.state) × (q ≡ p)

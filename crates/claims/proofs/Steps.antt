@@ -254,11 +254,11 @@ module _ (k : Kind) (b : Box) (p : Paper) (call : Asked) (a : List ℕ) (safe : 
       ready : eqb (by_kind k b.state (stepped r after)).state.ready 0 ≡ false
       ready = ap (λ (n : ℕ). eqb n 0) (kind_ready b (stepped r after) k) ∙ safe.ready
 
-      tied-as : (v : Event) → Tied w (step p v) → Tied (view k (box_with b (by_kind k b.state (stepped r after)).state)) (step p v)
-      tied-as v t = subst (λ (x : World). Tied x (step p v)) (sym (kind_view b (stepped r after) k)) t
+      tied_as : (v : Event) → Tied w (step p v) → Tied (view k (box_with b (by_kind k b.state (stepped r after)).state)) (step p v)
+      tied_as v t = subst (λ (x : World). Tied x (step p v)) (sym (kind_view b (stepped r after) k)) t
 
-      told-as : (x : Bool) → refused_reply r.reply ≡ x → f.event ≡ cond x idle (replied_told p c r.reply)
-      told-as x e = sym f.tells ∙ ap (λ (y : Bool). cond y idle (replied_told p c r.reply)) e
+      told_as : (x : Bool) → refused_reply r.reply ≡ x → f.event ≡ cond x idle (replied_told p c r.reply)
+      told_as x e = sym f.tells ∙ ap (λ (y : Bool). cond y idle (replied_told p c r.reply)) e
 
       go : (x : Bool) → refused_reply r.reply ≡ x → Does k b p call a (by_kind k b.state (stepped r after))
       go true e = record {
@@ -270,10 +270,10 @@ module _ (k : Kind) (b : Box) (p : Paper) (call : Asked) (a : List ℕ) (safe : 
         timely = tt;
         ready = ready;
         sized = kind_sized b (stepped r after) k safe.sized;
-        tied = tied-as idle (subst (λ (v : Event). Tied w (step p v)) (told-as true e) f.tied);
+        tied = tied_as idle (subst (λ (v : Event). Tied w (step p v)) (told_as true e) f.tied);
       }
       go false e =
-          let is : f.event ≡ replied_told p c r.reply = told-as false e in
+          let is : f.event ≡ replied_told p c r.reply = told_as false e in
           let zero : (by_kind k b.state (stepped r after)).number ≡ 0 = number_is ∙ accepted_number r.reply e in
           record {
             event = replied_told p c r.reply;
@@ -288,7 +288,7 @@ module _ (k : Kind) (b : Box) (p : Paper) (call : Asked) (a : List ℕ) (safe : 
             timely = timely;
             ready = ready;
             sized = kind_sized b (stepped r after) k safe.sized;
-            tied = tied-as (replied_told p c r.reply) (subst (λ (v : Event). Tied w (step p v)) is f.tied);
+            tied = tied_as (replied_told p c r.reply) (subst (λ (v : Event). Tied w (step p v)) is f.tied);
           }
 
 -- what a type is, it is not another

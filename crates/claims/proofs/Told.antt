@@ -150,15 +150,15 @@ stream_argument f at d a h =
     let k : Kind = kind_of (word_at a at) in
     let is = (stream_accepted f at d a h).1 in
     let r : StreamAnswer = f (stream_of k d) (type_of k) (size_of k d) a in
-    (by_number k r ∙ ap (λ (z : Answer). z.number) (sym is) ∙ h, ap (λ (z : Answer). z.argument) is ∙ by-argument k r)
+    (by_number k r ∙ ap (λ (z : Answer). z.number) (sym is) ∙ h, ap (λ (z : Answer). z.argument) is ∙ by_argument k r)
   where
     by_number : (k : Kind) (r : StreamAnswer) → r.number ≡ (by_kind k d r).number
     by_number Kind.pictures r = refl
     by_number Kind.captions r = refl
 
-    by-argument : (k : Kind) (r : StreamAnswer) → (by_kind k d r).argument ≡ r.argument
-    by-argument Kind.pictures r = refl
-    by-argument Kind.captions r = refl
+    by_argument : (k : Kind) (r : StreamAnswer) → (by_kind k d r).argument ≡ r.argument
+    by_argument Kind.pictures r = refl
+    by_argument Kind.captions r = refl
 
 -- ---- what a buffer request answers
 

@@ -18,7 +18,7 @@ use Rattle.device_state.specs.State.{closed_state}
 use Rattle.stream_history.specs.Paper.{Paper, blank, changes}
 use Rattle.stream_history.specs.Claims.{mapped_on, times_in, times_out}
 use Rattle.stream_history.proofs.Sound.{sound_blank}
-use Rattle.stream_history.proofs.Machine.{legal-tells}
+use Rattle.stream_history.proofs.Machine.{legal_tells}
 use Rattle.stream_history.proofs.Tallies.{tally, opening_tally}
 use Rattle.stream_history.proofs.Places.{placed}
 use Rattle.claims.proofs.Steps.{view, Safe}
@@ -96,7 +96,7 @@ module _ (s : List ℕ) (m : Kind → List ℕ) (k : Kind) (cs : List Call) wher
           × ((paper_after s m k cs).granted ≤ i → maps_of (paper_after s m k cs).maps i ≡ 0)
       go (Begun.safe x) =
           let g : Safe k (box_after s m cs) (paper_after s m k cs) = safe_after k cs (opened s m) (blank (opening_size s k)) (x k) in
-          let l = legal-tells seen next (told k) (Safe k) (safe_next k) (fits_next k) cs (opened s m) (blank (opening_size s k)) (x k) in (
+          let l = legal_tells seen next (told k) (Safe k) (safe_next k) (fits_next k) cs (opened s m) (blank (opening_size s k)) (x k) in (
             omega (arith, tally (events k (opened s m) (blank (opening_size s k)) cs) (blank (opening_size s k)) i l (sound_blank (opening_size s k)), opening_tally (opening_size s k) i),
             g.kept.sound.maps.most i,
             g.kept.sound.maps.spare i,

@@ -29,11 +29,11 @@ use Rattle.sheet_rules.proofs.Truth.{any_at}
 use Rattle.sheet_rules.proofs.Facts.{Sizes}
 use Rattle.sheet_rules.proofs.Good.{geometry, format}
 use Rattle.grid_rules.specs.Grid.{nearest_size, size_at}
-use Rattle.grid_rules.proofs.Sizes.{size_to, size-on-grid, size-nearest, size-tie}
+use Rattle.grid_rules.proofs.Sizes.{size_to, size_on_grid, size_nearest, size_tie}
 use Rattle.format_rules.specs.declared.Format.{Format}
 use Rattle.negotiation_rules.specs.Negotiation.{offered, offers_among, chosen_code, negotiated, asked_format}
 use Rattle.negotiation_rules.specs.Answer.{picture_words}
-use Rattle.negotiation_rules.proofs.Good.{offered_all, width-within, height-within, chosen_offered, code_kept}
+use Rattle.negotiation_rules.proofs.Good.{offered_all, width_within, height_within, chosen_offered, code_kept}
 use Rattle.negotiation_rules.proofs.Reply.{reply_length, reply_word}
 use Rattle.wire_read.proofs.Tabs.{tab_get}
 use Rattle.service_rules.specs.Services.{Each, has, offers}
@@ -106,13 +106,13 @@ same_given s d t u a et eu h =
 nearest_of : (r : Range) → Sizes r → (asked : ℕ) → Nearest r asked (nearest_size r asked)
 nearest_of r z asked =
     let some : 0 < r.step = omega (arith, z.stride) in
-    let at = size-on-grid r z.steps some z.whole asked in
+    let at = size_on_grid r z.steps some z.whole asked in
     record {
       place = at.0;
       is = at.2;
       most = size_to r asked z.order;
-      near = λ k h. size-nearest r z.steps some z.whole asked k (within k h some);
-      tie = λ k h e. size-tie r z.steps some z.whole asked k (within k h some) e;
+      near = λ k h. size_nearest r z.steps some z.whole asked k (within k h some);
+      tie = λ k h e. size_tie r z.steps some z.whole asked k (within k h some) e;
     }
   where
     within : (k : ℕ) → size_at r k ≤ r.greatest → 0 < r.step → k ≤ z.steps
@@ -140,11 +140,11 @@ module _ (s : List ℕ) (good : good_sheet s ≡ true) (f : Format) where
   -- width, height and code of what was negotiated
   pub width_word : word_at (told_format s (negotiated s f)) 4 ≡ nearest_size (widths_of s) f.width
   unfolding picture_words negotiated
-  width_word = reply_word 1 (negotiated s f) _ _ 1 (omega arith) (omega (arith, (width-within s good f.width).1))
+  width_word = reply_word 1 (negotiated s f) _ _ 1 (omega arith) (omega (arith, (width_within s good f.width).1))
 
   pub height_word : word_at (told_format s (negotiated s f)) 8 ≡ nearest_size (heights_of s) f.height
   unfolding picture_words negotiated
-  height_word = reply_word 1 (negotiated s f) _ _ 2 (omega arith) (omega (arith, (height-within s good f.height).1))
+  height_word = reply_word 1 (negotiated s f) _ _ 2 (omega arith) (omega (arith, (height_within s good f.height).1))
 
   pub code_word : word_at (told_format s (negotiated s f)) 12 ≡ chosen_code s f.code
   unfolding picture_words negotiated
@@ -227,17 +227,17 @@ module _ (s : List ℕ) (m : Kind → List ℕ) (cs : List Call) (t : ℕ) (a : 
         )
         go (Since.bad n d p) (r, q) = never b.state d r
 
-    widths-told : Nearest (widths_of s) (word_at a 4) (word_at ((ours s m).request cs t a).argument 4)
+    widths_told : Nearest (widths_of s) (word_at a 4) (word_at ((ours s m).request cs t a).argument 4)
     unfolding asked_format
-    widths-told = rw (tried.1, width_word s tried.0 (asked_format a)) (nearest_of (widths_of s) (geometry s tried.0).widths (word_at a 4))
+    widths_told = rw (tried.1, width_word s tried.0 (asked_format a)) (nearest_of (widths_of s) (geometry s tried.0).widths (word_at a 4))
 
-    heights-told : Nearest (heights_of s) (word_at a 8) (word_at ((ours s m).request cs t a).argument 8)
+    heights_told : Nearest (heights_of s) (word_at a 8) (word_at ((ours s m).request cs t a).argument 8)
     unfolding asked_format
-    heights-told = rw (tried.1, height_word s tried.0 (asked_format a)) (nearest_of (heights_of s) (geometry s tried.0).heights (word_at a 8))
+    heights_told = rw (tried.1, height_word s tried.0 (asked_format a)) (nearest_of (heights_of s) (geometry s tried.0).heights (word_at a 8))
 
-    codes-told : Chosen s (word_at a 12) (word_at ((ours s m).request cs t a).argument 12)
+    codes_told : Chosen s (word_at a 12) (word_at ((ours s m).request cs t a).argument 12)
     unfolding asked_format
-    codes-told = rw (tried.1, code_word s tried.0 (asked_format a)) (chosen_of s tried.0 (word_at a 12))
+    codes_told = rw (tried.1, code_word s tried.0 (asked_format a)) (chosen_of s tried.0 (word_at a 12))
 
 pub told_2 : (s : List ℕ) (m : Kind → List ℕ) → Demand2 s (ours s m)
 told_2 s m = record {
@@ -249,8 +249,8 @@ told_2 s m = record {
       let e : box_after s m (more cs (request u a)) ≡ next (box_after s m cs) (request u a) = one_more_law s m cs (request u a) in
       ap (λ (x : Box). (asks x g b).argument) e
       ∙ got_set (box_after s m cs).sheet (box_after s m cs).state u g a b eu eg eq h (ap (λ (x : Box). (asks x g b).number) (sym e) ∙ k);
-  widths = widths-told s m;
-  heights = heights-told s m;
-  codes = codes-told s m;
+  widths = widths_told s m;
+  heights = heights_told s m;
+  codes = codes_told s m;
   services = services_told s m;
 }

@@ -10,8 +10,8 @@ use Rattle.ivtv_rules.proofs.Openings.{same_equal, same_self}
 use Rattle.claims_ivtv.specs.Packer.{Gives, Packer, our_packer}
 use Rattle.claims_ivtv.specs.Meets.{Refused, WriterExact, ReaderExact, ReadBack, WrittenBack, OneBlock, Meets, NoRoom}
 use Rattle.claims_ivtv.proofs.Tests.{passes, equals}
-use Rattle.claims_ivtv.proofs.Writer.{lines_sound, lines-complete, pack_taken, pack_refused, writer_exact}
-use Rattle.claims_ivtv.proofs.Reader.{block_sound, block-complete, unpack_taken, unpack_refused, reader_exact}
+use Rattle.claims_ivtv.proofs.Writer.{lines_sound, lines_complete, pack_taken, pack_refused, writer_exact}
+use Rattle.claims_ivtv.proofs.Reader.{block_sound, block_complete, unpack_taken, unpack_refused, reader_exact}
 
 -- the five parts together
 pub meets : ReadBack our_packer → WrittenBack our_packer → OneBlock our_packer → Meets our_packer
@@ -38,7 +38,7 @@ same_pack P w s o = by (packable s (length o)) refl
         let y = pack_taken s o t in
         alike (P.pack s o) (our_packer.pack s o) (z ∙ sym y.0) (w.writes s o z ∙ sym y.1)
     by false t =
-        let z = refusal (P.pack s o) o (λ n. false≢true (sym t ∙ lines-complete s (length o) (λ f. n (w.refuses s o f)))) in
+        let z = refusal (P.pack s o) o (λ n. false≢true (sym t ∙ lines_complete s (length o) (λ f. n (w.refuses s o f)))) in
         let y = pack_refused s o t in
         alike (P.pack s o) (our_packer.pack s o) (z.0 ∙ sym y.0) (z.1 ∙ sym y.1)
 
@@ -52,7 +52,7 @@ same_unpack P r b o = by (readable b (length o)) refl
         let y = unpack_taken b o t in
         alike (P.unpack b o) (our_packer.unpack b o) (z ∙ sym y.0) (r.writes b o z ∙ sym y.1)
     by false t =
-        let z = refusal (P.unpack b o) o (λ n. false≢true (sym t ∙ block-complete b (length o) (λ f. n (r.refuses b o f)))) in
+        let z = refusal (P.unpack b o) o (λ n. false≢true (sym t ∙ block_complete b (length o) (λ f. n (r.refuses b o f)))) in
         let y = unpack_refused b o t in
         alike (P.unpack b o) (our_packer.unpack b o) (z.0 ∙ sym y.0) (z.1 ∙ sym y.1)
 

@@ -42,22 +42,22 @@ module _ (b : List ℕ) (m : ℕ) where
     line_taken = all_at (lines_named b) (λ j. good_line (line_at b (start_in b) j)) t.body
 
     -- the words behind itv0
-    words-taken : take 4 b ≡ itv0 → mask_words b < 2 ^ 36 - 1
-    words-taken e = rw (← small_mask b e) (start_below b (start_of_law b t.opening) e)
+    words_taken : take 4 b ≡ itv0 → mask_words b < 2 ^ 36 - 1
+    words_taken e = rw (← small_mask b e) (start_below b (start_of_law b t.opening) e)
 
     -- and so it has no flaw
-    no-flaw : BlockFlaw b m → ⊥
-    no-flaw (not_zeroed j x h p l e) =
+    no_flaw : BlockFlaw b m → ⊥
+    no_flaw (not_zeroed j x h p l e) =
         e (sym (later_byte b j x l) ∙ (good_parts (line_at b (start_in b) j) (line_taken j h)).1 x (rw (first_byte b j) p) l)
-    no-flaw (other_opening p q) = start_letters b (start_of_law b t.opening) p q
-    no-flaw (other_identifier j h e) = (good_parts (line_at b (start_in b) j) (line_taken j h)).0 (rw (first_byte b j) e)
-    no-flaw (high_bit e h) = omega (arith, words-taken e)
-    no-flaw (all_bits e h) = omega (arith, words-taken e)
-    no-flaw (other_length e) = e t.long
-    no-flaw (other_room e) = e t.room
+    no_flaw (other_opening p q) = start_letters b (start_of_law b t.opening) p q
+    no_flaw (other_identifier j h e) = (good_parts (line_at b (start_in b) j) (line_taken j h)).0 (rw (first_byte b j) e)
+    no_flaw (high_bit e h) = omega (arith, words_taken e)
+    no_flaw (all_bits e h) = omega (arith, words_taken e)
+    no_flaw (other_length e) = e t.long
+    no_flaw (other_room e) = e t.room
 
   pub block_sound : readable b m ≡ true → BlockFlaw b m → ⊥
-  block_sound t = no-flaw (readable_parts b m t)
+  block_sound t = no_flaw (readable_parts b m t)
 
   module _ (none : BlockFlaw b m → ⊥) where
     -- without a flaw the mask behind itv0 is below that of all lines
@@ -68,9 +68,9 @@ module _ (b : List ℕ) (m : ℕ) where
         omega arith
 
     -- the opening is good
-    has-opening : good_opening b ≡ true
+    has_opening : good_opening b ≡ true
     unfolding good_opening
-    has-opening = by (opens ITV0 b) refl
+    has_opening = by (opens ITV0 b) refl
       where
         by : (x : Bool) → opens ITV0 b ≡ x → (x || opens itv0 b && ltb (mask_in b) (2 ^ 36 - 1)) ≡ true
         by true e = refl
@@ -81,20 +81,20 @@ module _ (b : List ℕ) (m : ℕ) where
             rw (u, v)
 
     -- each line is
-    has-line : (j : ℕ) → j < lines_named b → good_line (line_at b (start_in b) j) ≡ true
-    has-line j h =
+    has_line : (j : ℕ) → j < lines_named b → good_line (line_at b (start_in b) j) ≡ true
+    has_line j h =
         good_by (line_at b (start_in b) j) (λ e. none (other_identifier j h (rw (first_byte b j) at e)))
         (λ x p l. later_byte b j x l ∙ equals (get_or b (line_start b j + 1 + x) 0) 0 (λ f. none (not_zeroed j x h (rw (first_byte b j) at p) l f)))
 
     -- so the block is taken
-    pub block-complete : readable b m ≡ true
+    pub block_complete : readable b m ≡ true
     unfolding good_body
-    block-complete =
+    block_complete =
         readable_by b m record {
-          opening = has-opening;
+          opening = has_opening;
           long = equals (length b) (line_start b (lines_named b)) (λ e. none (other_length e));
           room = equals m (64 * lines_named b) (λ e. none (other_room e));
-          body = all_of (lines_named b) (λ j. good_line (line_at b (start_in b) j)) has-line;
+          body = all_of (lines_named b) (λ j. good_line (line_at b (start_in b) j)) has_line;
         }
 
 -- what is given back where it is taken, and where not
@@ -109,6 +109,6 @@ unpack_refused b o t = (rw t, rw t)
 pub reader_exact : ReaderExact our_packer
 reader_exact = record {
   refuses = λ b o w. unpack_refused b o (fails (readable b (length o)) (λ t. block_sound b (length o) t w));
-  accepts = λ b o n. (unpack_taken b o (block-complete b (length o) n)).0;
+  accepts = λ b o n. (unpack_taken b o (block_complete b (length o) n)).0;
   writes = λ b o z. (unpack_taken b o (passes (readable b (length o)) (λ f. omega (arith, z, (unpack_refused b o f).0)))).1;
 }

@@ -71,37 +71,37 @@ bit_one f l g m h e =
 module _ (s : List ℕ) (m : ℕ) where
   module _ (t : Packable s m) where
     -- each record that is taken
-    record-taken : (i : ℕ) → i < record_count s → (is_service (service_at s i) ≡ true) × (bit_of (field_at s i) (line_number_at s i) < 36)
-    record-taken i h = bit_good s i (good_at_law s (record_count s) t.good i h).0
+    record_taken : (i : ℕ) → i < record_count s → (is_service (service_at s i) ≡ true) × (bit_of (field_at s i) (line_number_at s i) < 36)
+    record_taken i h = bit_good s i (good_at_law s (record_count s) t.good i h).0
 
     line_taken : (i : ℕ) → i < record_count s → (field_at s i < 2) × (6 ≤ line_number_at s i) × (line_number_at s i ≤ 23)
     line_taken i h =
-        let k = (record-taken i h).1 in
+        let k = (record_taken i h).1 in
         let p = bit_parts (field_at s i) (line_number_at s i) (bit_of (field_at s i) (line_number_at s i)) refl k in
         (omega arith, omega arith, omega arith)
 
     -- and so it has no flaw
-    no-flaw : LinesFlaw s m → ⊥
-    no-flaw (other_service i h e) = false≢true (sym e ∙ (record-taken i h).0)
-    no-flaw (other_field i h e) = omega (arith, line_taken i h)
-    no-flaw (other_line i h e) = ⊎_elim (λ l. omega (arith, line_taken i h)) (λ l. omega (arith, line_taken i h)) e
-    no-flaw (twice i j l h e f) =
+    no_flaw : LinesFlaw s m → ⊥
+    no_flaw (other_service i h e) = false≢true (sym e ∙ (record_taken i h).0)
+    no_flaw (other_field i h e) = omega (arith, line_taken i h)
+    no_flaw (other_line i h e) = ⊎_elim (λ l. omega (arith, line_taken i h)) (λ l. omega (arith, line_taken i h)) e
+    no_flaw (twice i j l h e f) =
         let k : i < record_count s = omega arith in
         naming_none s j (bit_at s j) i (good_at_law s (record_count s) t.good j h).1 l
-        (bit_known s i (record-taken i k).0 ∙ ap₂ bit_of e f ∙ sym (bit_known s j (record-taken j h).0))
-    no-flaw (part_record e) = e t.whole
-    no-flaw (other_length e) = e t.room
+        (bit_known s i (record_taken i k).0 ∙ ap₂ bit_of e f ∙ sym (bit_known s j (record_taken j h).0))
+    no_flaw (part_record e) = e t.whole
+    no_flaw (other_length e) = e t.room
 
   pub lines_sound : packable s m ≡ true → LinesFlaw s m → ⊥
-  lines_sound t = no-flaw (packable_parts s m t)
+  lines_sound t = no_flaw (packable_parts s m t)
 
   module _ (none : LinesFlaw s m → ⊥) where
     -- without a flaw each record has a bit
-    has-service : (i : ℕ) → i < record_count s → is_service (service_at s i) ≡ true
-    has-service i h = passes (is_service (service_at s i)) (λ e. none (other_service i h e))
+    has_service : (i : ℕ) → i < record_count s → is_service (service_at s i) ≡ true
+    has_service i h = passes (is_service (service_at s i)) (λ e. none (other_service i h e))
 
-    has-bit : (i : ℕ) → i < record_count s → bit_of (field_at s i) (line_number_at s i) < 36
-    has-bit i h =
+    has_bit : (i : ℕ) → i < record_count s → bit_of (field_at s i) (line_number_at s i) < 36
+    has_bit i h =
         let a : 1 < field_at s i → ⊥ = λ l. none (other_field i h l) in
         let b : line_number_at s i < 6 → ⊥ = λ l. none (other_line i h (inl l)) in
         let c : 23 < line_number_at s i → ⊥ = λ l. none (other_line i h (inr l)) in
@@ -113,19 +113,19 @@ module _ (s : List ℕ) (m : ℕ) where
         let i : ℕ = naming s j (bit_at s j) - 1 in
         let b : i < j = omega (arith, naming_most s j (bit_at s j)) in
         let k : i < record_count s = omega arith in
-        let o = bit_one (field_at s i) (line_number_at s i) (field_at s j) (line_number_at s j) (has-bit i k)
-        (sym (bit_known s i (has-service i k)) ∙ naming_names s j (bit_at s j) l ∙ bit_known s j (has-service j h)) in
+        let o = bit_one (field_at s i) (line_number_at s i) (field_at s j) (line_number_at s j) (has_bit i k)
+        (sym (bit_known s i (has_service i k)) ∙ naming_names s j (bit_at s j) l ∙ bit_known s j (has_service j h)) in
         none (twice i j b h o.0 o.1)
 
     -- so they are taken
-    pub lines-complete : packable s m ≡ true
-    lines-complete =
+    pub lines_complete : packable s m ≡ true
+    lines_complete =
         packable_by s m record {
           whole = equals (length s % 64) 0 (λ e. none (part_record e));
           good =
               good_of s (record_count s)
               (λ i h. let c : 0 < naming s i (bit_at s i) → ⊥ = clash i h in
-              (rw (bit_known s i (has-service i h)) (has-bit i h), omega arith));
+              (rw (bit_known s i (has_service i h)) (has_bit i h), omega arith));
           room = equals m (block_length (record_count s)) (λ e. none (other_length e));
         }
 
@@ -141,6 +141,6 @@ pack_refused s o t = (rw t, rw t)
 pub writer_exact : WriterExact our_packer
 writer_exact = record {
   refuses = λ s o w. pack_refused s o (fails (packable s (length o)) (λ t. lines_sound s (length o) t w));
-  accepts = λ s o n. (pack_taken s o (lines-complete s (length o) n)).0;
+  accepts = λ s o n. (pack_taken s o (lines_complete s (length o) n)).0;
   writes = λ s o z. (pack_taken s o (passes (packable s (length o)) (λ f. omega (arith, z, (pack_refused s o f).0)))).1;
 }

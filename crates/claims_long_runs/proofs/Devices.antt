@@ -23,7 +23,7 @@ use Rattle.claims_shut_out.specs.Wrong.{ours}
 use Rattle.claims_shut_out.proofs.Instances.{wrong}
 use Rattle.claims_long_runs.specs.Films.{begun, comes, torn, takes, gives, stops, repeated, film}
 use Rattle.claims_long_runs.specs.Late.{Misnumbered, FullTooSoon, FullTooLate, LossOverlooked, Miscounted, numbered, full_at, judged, saturating, wraps_early, old_limit, one_less, endless, judged_reduced, short_counts, LateDevices}
-use Rattle.claims_long_runs.proofs.Rounds.{in_run, At, after-comes, after-stops, at_first}
+use Rattle.claims_long_runs.proofs.Rounds.{in_run, At, after_comes, after_stops, at_first}
 use Rattle.claims_long_runs.proofs.Films.{rounds, tears, filmed, some_lost, long_films}
 use Rattle.claims_long_runs.proofs.Late.{late_faults}
 
@@ -136,7 +136,7 @@ lossy_run : At S one Kind.pictures almost_all 4294967297 1 4294967296
 lossy_run = rounds S one Kind.pictures 1 _ 4294967296 0 4294967296 (tears S one Kind.pictures 4294967296 (begun Kind.pictures) 0 0 0 (at_first S one answers Kind.pictures) (omega arith)) (omega arith)
 
 lossy_end : paper_in bench_sheet S Kind.pictures (more almost_all (stops Kind.pictures)) ≡ step (in_run Kind.pictures 4294967297 1 4294967296) (ended 4)
-lossy_end = after-stops S one 4294967297 1 4294967296 Kind.pictures almost_all lossy_run.paper
+lossy_end = after_stops S one 4294967297 1 4294967296 Kind.pictures almost_all lossy_run.paper
 
 overlooks : LossOverlooked judged_reduced
 overlooks =
@@ -157,7 +157,7 @@ counts_short =
     let e : At S one Kind.pictures cs 4294967295 4294967295 0 = filmed S one answers counts Kind.pictures 4294967295 (omega arith) in
     let more-one : (S.counts Kind.pictures (more cs (comes Kind.pictures))).accepted ≡ 4294967296 =
     ap (λ (r : Run). r.accepted) ((counts Kind.pictures).counted (more cs (comes Kind.pictures)))
-    ∙ ap (λ (p : Paper). p.run.accepted) (after-comes S one Kind.pictures cs 4294967295 4294967295 0 e (omega arith)) in (
+    ∙ ap (λ (p : Paper). p.run.accepted) (after_comes S one Kind.pictures cs 4294967295 4294967295 0 e (omega arith)) in (
       bench_sheet,
       dark,
       Kind.pictures,

@@ -31,7 +31,7 @@ use Rattle.claims_shut_out.specs.Calls.{dark, buffer_of}
 use Rattle.claims_shut_out.proofs.Played.{opens, On}
 use Rattle.claims_long_runs.specs.Films.{begun, whole_frame, comes, torn, takes, gives, stops, repeated, film, lossy, next_answer, next_returned, verdict_on, Long, Edges, LongFilms}
 use Rattle.claims_long_runs.proofs.Late.{is_stream, full_there}
-use Rattle.claims_long_runs.proofs.Rounds.{in_run, filled_run, At, stores, after-comes, after-torn, taken, round, after-stops, at_first}
+use Rattle.claims_long_runs.proofs.Rounds.{in_run, filled_run, At, stores, after_comes, after_torn, taken, round, after_stops, at_first}
 
 module _ (S : Session) (d : Demand1 bench_sheet dark S) (k : Kind) where
   -- the same place by other counts
@@ -53,7 +53,7 @@ module _ (S : Session) (d : Demand1 bench_sheet dark S) (k : Kind) where
   tears zero cs a h t e l = counted_as cs a h t (a + 0) h (t + 0) (omega arith) refl (omega arith) e
   tears (suc n) cs a h t e l =
       counted_as (repeated cs (torn k ∷ []) n ++ torn k ∷ []) (a + n + 1) h (t + n + 1) (a + suc n) h (t + suc n) (omega arith) refl (omega arith)
-      (after-torn S d k (repeated cs (torn k ∷ []) n) (a + n) h (t + n) (tears n cs a h t e (omega (arith, l))) (omega (arith, l)))
+      (after_torn S d k (repeated cs (torn k ∷ []) n) (a + n) h (t + n) (tears n cs a h t e (omega (arith, l))) (omega (arith, l)))
 
 -- ---- the verdict
 
@@ -107,17 +107,17 @@ module _ (S : Session) (d : Demand1 bench_sheet dark S) (n : Answers bench_sheet
     stored m l = stores S d k (film k m) m m 0 (filmed k m (omega (arith, l))) l
 
     returned : (m : ℕ) → m < run_limit → next_returned S k (film k m) ≡ reduced m
-    returned m l = returns k (more (film k m) (comes k)) m m 0 (after-comes S d k (film k m) m m 0 (filmed k m (omega (arith, l))) l)
+    returned m l = returns k (more (film k m) (comes k)) m m 0 (after_comes S d k (film k m) m m 0 (filmed k m (omega (arith, l))) l)
 
     complete : (m : ℕ) → 0 < m → m ≤ run_limit → verdict_on S k (film k m) ≡ Complete
-    complete m some l = all_there S k (more (film k m) (stops k)) (c k) m 0 some (after-stops S d m m 0 k (film k m) (filmed k m l).paper)
+    complete m some l = all_there S k (more (film k m) (stops k)) (c k) m 0 some (after_stops S d m m 0 k (film k m) (filmed k m l).paper)
 
     -- i frames, a torn one, m frames
     lost : (i m : ℕ) → 0 < i + m → i + m < run_limit → verdict_on S k (lossy k i m) ≡ Gaps
     lost i m some l =
         let e : At S d k (lossy k i m) (i + 1 + m) (i + m) 1 =
-        rounds S d k m (more (film k i) (torn k)) (i + 1) i 1 (after-torn S d k (film k i) i i 0 (filmed k i (omega (arith, l))) (omega (arith, l))) (omega (arith, l)) in
-        some_lost S k (more (lossy k i m) (stops k)) (c k) (i + 1 + m) (i + m) 1 some (omega arith) (after-stops S d (i + 1 + m) (i + m) 1 k (lossy k i m) e.paper)
+        rounds S d k m (more (film k i) (torn k)) (i + 1) i 1 (after_torn S d k (film k i) i i 0 (filmed k i (omega (arith, l))) (omega (arith, l))) (omega (arith, l)) in
+        some_lost S k (more (lossy k i m) (stops k)) (c k) (i + 1 + m) (i + m) 1 some (omega arith) (after_stops S d (i + 1 + m) (i + m) 1 k (lossy k i m) e.paper)
 
     pub long : Long S k
     long = record {

@@ -26,7 +26,7 @@ use Rattle.claims.specs.Demands.{Demand1, Answers}
 use Rattle.claims.proofs.Sessions.{desk_more}
 use Rattle.bench_sheet.specs.Bench.{bench_sheet}
 use Rattle.claims_shut_out.specs.Calls.{dark, buffer_of, run_of, video, reqbufs, qbuf}
-use Rattle.claims_shut_out.proofs.Played.{plain_long, dark_long, On, asked_both, asked, arrives, came, then, then-came}
+use Rattle.claims_shut_out.proofs.Played.{plain_long, dark_long, On, asked_both, asked, arrives, came, then, then_came}
 use Rattle.claims_shut_out.proofs.Film.{P1, at_1}
 use Rattle.claims_shut_out.proofs.Captions.{C1, C2, C3, C4, at_4, in_force, is_whole_law}
 use Rattle.claims_long_runs.specs.Films.{begun, whole_frame, comes, torn, takes, gives, stops}
@@ -85,16 +85,16 @@ module _ (S : Session) (d : Demand1 bench_sheet dark S) where
     pub stores : At k cs a h t → a < run_limit → S.arrival cs (type_of k) (whole_frame k) 0 0 (dark k) ≡ Stored 0 (reduced a)
     stores e l = arrives S d k cs (in_run k a h t) (whole_frame k) 0 0 (dark k) e.paper (admits k a h t l) ∙ rw e.whole
 
-    pub after-comes : At k cs a h t → a < run_limit → On S d k (more cs (comes k)) (filled_run k a h t)
-    after-comes e l =
-        then-came S d k cs (in_run k a h t) (whole_frame k) 0 0 (dark k) e.paper (came S d k cs (in_run k a h t) (whole_frame k) 0 0 (dark k) e.paper (admits k a h t l))
+    pub after_comes : At k cs a h t → a < run_limit → On S d k (more cs (comes k)) (filled_run k a h t)
+    after_comes e l =
+        then_came S d k cs (in_run k a h t) (whole_frame k) 0 0 (dark k) e.paper (came S d k cs (in_run k a h t) (whole_frame k) 0 0 (dark k) e.paper (admits k a h t l))
         ∙ rw e.whole
 
     -- a torn one is damaged
-    pub after-torn : At k cs a h t → a < run_limit → At k (more cs (torn k)) (a + 1) h (t + 1)
-    after-torn e l = record {
+    pub after_torn : At k cs a h t → a < run_limit → At k (more cs (torn k)) (a + 1) h (t + 1)
+    after_torn e l = record {
       paper =
-          then-came S d k cs (in_run k a h t) (0 ∷ []) 0 0 (dark k) e.paper (came S d k cs (in_run k a h t) (0 ∷ []) 0 0 (dark k) e.paper (admits k a h t l))
+          then_came S d k cs (in_run k a h t) (0 ∷ []) 0 0 (dark k) e.paper (came S d k cs (in_run k a h t) (0 ∷ []) 0 0 (dark k) e.paper (admits k a h t l))
           ∙ rw (one_byte k (desk_in bench_sheet S cs).services);
       whole = still k cs (torn k) refl e.whole;
     }
@@ -107,10 +107,10 @@ module _ (S : Session) (d : Demand1 bench_sheet dark S) where
     taken Kind.captions cs e =
         asked_both S d cs (paper_in bench_sheet S Kind.pictures cs) (filled_run Kind.captions a h t) 0xC0445611 (buffer_of Kind.captions 0) refl e refl
 
-    after-takes : (k : Kind) (cs : List Call) → On S d k cs (filled_run k a h t) → On S d k (more cs (takes k)) (step (filled_run k a h t) handed)
+    after_takes : (k : Kind) (cs : List Call) → On S d k cs (filled_run k a h t) → On S d k (more cs (takes k)) (step (filled_run k a h t) handed)
     unfolding request_of call_of known_words word_at le32 bytes_of
-    after-takes Kind.pictures cs e = then S d Kind.pictures cs (filled_run Kind.pictures a h t) 0xC0445611 (buffer_of Kind.pictures 0) e (taken Kind.pictures cs e)
-    after-takes Kind.captions cs e = then S d Kind.captions cs (filled_run Kind.captions a h t) 0xC0445611 (buffer_of Kind.captions 0) e (taken Kind.captions cs e)
+    after_takes Kind.pictures cs e = then S d Kind.pictures cs (filled_run Kind.pictures a h t) 0xC0445611 (buffer_of Kind.pictures 0) e (taken Kind.pictures cs e)
+    after_takes Kind.captions cs e = then S d Kind.captions cs (filled_run Kind.captions a h t) 0xC0445611 (buffer_of Kind.captions 0) e (taken Kind.captions cs e)
 
     given : (k : Kind) (cs : List Call) → On S d k cs (step (filled_run k a h t) handed) → (S.request cs 0xC044560F (buffer_of k 0)).number ≡ 0
     unfolding request_of call_of known_words word_at le32 bytes_of any
@@ -118,30 +118,30 @@ module _ (S : Session) (d : Demand1 bench_sheet dark S) where
     given Kind.captions cs e =
         asked_both S d cs (paper_in bench_sheet S Kind.pictures cs) (step (filled_run Kind.captions a h t) handed) 0xC044560F (buffer_of Kind.captions 0) refl e refl
 
-    after-gives : (k : Kind) (cs : List Call) → On S d k cs (step (filled_run k a h t) handed) → On S d k (more cs (gives k)) (in_run k (a + 1) (h + 1) t)
+    after_gives : (k : Kind) (cs : List Call) → On S d k cs (step (filled_run k a h t) handed) → On S d k (more cs (gives k)) (in_run k (a + 1) (h + 1) t)
     unfolding request_of call_of known_words word_at le32 bytes_of
-    after-gives Kind.pictures cs e = then S d Kind.pictures cs (step (filled_run Kind.pictures a h t) handed) 0xC044560F (buffer_of Kind.pictures 0) e (given Kind.pictures cs e)
-    after-gives Kind.captions cs e = then S d Kind.captions cs (step (filled_run Kind.captions a h t) handed) 0xC044560F (buffer_of Kind.captions 0) e (given Kind.captions cs e)
+    after_gives Kind.pictures cs e = then S d Kind.pictures cs (step (filled_run Kind.pictures a h t) handed) 0xC044560F (buffer_of Kind.pictures 0) e (given Kind.pictures cs e)
+    after_gives Kind.captions cs e = then S d Kind.captions cs (step (filled_run Kind.captions a h t) handed) 0xC044560F (buffer_of Kind.captions 0) e (given Kind.captions cs e)
 
     -- neither chooses anything
-    still-taken : (k : Kind) (cs : List Call) → On S d k cs (filled_run k a h t) → Whole k cs → Whole k (more cs (takes k))
+    still_taken : (k : Kind) (cs : List Call) → On S d k cs (filled_run k a h t) → Whole k cs → Whole k (more cs (takes k))
     unfolding request_of call_of known_words
-    still-taken k cs e w = still k cs (takes k) (rw (taken k cs e)) w
+    still_taken k cs e w = still k cs (takes k) (rw (taken k cs e)) w
 
-    still-given : (k : Kind) (cs : List Call) → On S d k cs (step (filled_run k a h t) handed) → Whole k cs → Whole k (more cs (gives k))
+    still_given : (k : Kind) (cs : List Call) → On S d k cs (step (filled_run k a h t) handed) → Whole k cs → Whole k (more cs (gives k))
     unfolding request_of call_of known_words
-    still-given k cs e w = still k cs (gives k) (rw (given k cs e)) w
+    still_given k cs e w = still k cs (gives k) (rw (given k cs e)) w
 
     -- ---- all three
     pub round : (k : Kind) (cs : List Call) → At k cs a h t → a < run_limit → At k (cs ++ comes k ∷ takes k ∷ gives k ∷ []) (a + 1) (h + 1) t
     round k cs e l =
-        let one : On S d k (more cs (comes k)) (filled_run k a h t) = after-comes k cs a h t e l in
-        let two : On S d k (more (more cs (comes k)) (takes k)) (step (filled_run k a h t) handed) = after-takes k (more cs (comes k)) one in
+        let one : On S d k (more cs (comes k)) (filled_run k a h t) = after_comes k cs a h t e l in
+        let two : On S d k (more (more cs (comes k)) (takes k)) (step (filled_run k a h t) handed) = after_takes k (more cs (comes k)) one in
         let joined : more (more (more cs (comes k)) (takes k)) (gives k) ≡ cs ++ comes k ∷ takes k ∷ gives k ∷ [] =
         append_assoc (more cs (comes k)) (takes k ∷ []) (gives k ∷ []) ∙ append_assoc cs (comes k ∷ []) (takes k ∷ gives k ∷ []) in
         subst (λ (x : List Call). At k x (a + 1) (h + 1) t) joined record {
-          paper = after-gives k (more (more cs (comes k)) (takes k)) two;
-          whole = still-given k (more (more cs (comes k)) (takes k)) two (still-taken k (more cs (comes k)) one (still k cs (comes k) refl e.whole));
+          paper = after_gives k (more (more cs (comes k)) (takes k)) two;
+          whole = still_given k (more (more cs (comes k)) (takes k)) two (still_taken k (more cs (comes k)) one (still k cs (comes k) refl e.whole));
         }
 
     -- ---- the run ends
@@ -150,10 +150,10 @@ module _ (S : Session) (d : Demand1 bench_sheet dark S) where
     ends Kind.pictures cs e = asked S d cs (in_run Kind.pictures a h t) 0x40045613 (run_of Kind.pictures) e refl
     ends Kind.captions cs e = asked_both S d cs (paper_in bench_sheet S Kind.pictures cs) (in_run Kind.captions a h t) 0x40045613 (run_of Kind.captions) refl e refl
 
-    pub after-stops : (k : Kind) (cs : List Call) → On S d k cs (in_run k a h t) → On S d k (more cs (stops k)) (step (in_run k a h t) (ended 4))
+    pub after_stops : (k : Kind) (cs : List Call) → On S d k cs (in_run k a h t) → On S d k (more cs (stops k)) (step (in_run k a h t) (ended 4))
     unfolding request_of call_of known_words word_at le32 bytes_of
-    after-stops Kind.pictures cs e = then S d Kind.pictures cs (in_run Kind.pictures a h t) 0x40045613 (run_of Kind.pictures) e (ends Kind.pictures cs e)
-    after-stops Kind.captions cs e = then S d Kind.captions cs (in_run Kind.captions a h t) 0x40045613 (run_of Kind.captions) e (ends Kind.captions cs e)
+    after_stops Kind.pictures cs e = then S d Kind.pictures cs (in_run Kind.pictures a h t) 0x40045613 (run_of Kind.pictures) e (ends Kind.pictures cs e)
+    after_stops Kind.captions cs e = then S d Kind.captions cs (in_run Kind.captions a h t) 0x40045613 (run_of Kind.captions) e (ends Kind.captions cs e)
 
   -- ---- the run begins
   switched : (S.request (reqbufs ∷ qbuf 0 ∷ []) 0x40045612 video).number ≡ 0

@@ -25,7 +25,7 @@ use Rattle.claims.specs.Machine.{Session, more}
 use Rattle.claims_together.specs.Crops.{CropTold, bounds_in, SetsNoCrop}
 use Rattle.claims_together.proofs.Switched.{call_in}
 use Rattle.claims_together.proofs.Waiting.{by_call}
-use Rattle.claims_together.proofs.Crops.{bounds-are}
+use Rattle.claims_together.proofs.Crops.{bounds_are}
 use Rattle.claims_together.proofs.Meets.{device_meets}
 use Rattle.bench_sheet.specs.Bench.{odd_sheet}
 use Rattle.bench_sheet.proofs.Good.{odd_good}
@@ -87,7 +87,7 @@ module _ (cs : List Call) where
 
   bounds_told : rect_at (S.request cs 0xC02C563A limits).argument 4 ≡ crop_bounds odd_sheet
   unfolding asks
-  bounds_told = bounds-are odd_sheet dark S (device_meets.demand_1 odd_sheet dark) (device_meets.answers odd_sheet dark) cs (asks S cs gets gets_limits)
+  bounds_told = bounds_are odd_sheet dark S (device_meets.demand_1 odd_sheet dark) (device_meets.answers odd_sheet dark) cs (asks S cs gets gets_limits)
 
 module _ (first g : Rect → Rect → Rect) where
   -- a device with other rules accepts them too

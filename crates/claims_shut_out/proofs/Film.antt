@@ -30,7 +30,7 @@ use Rattle.claims.specs.Demands.{Demand1, Demand3, Counts, since}
 use Rattle.bench_sheet.specs.Bench.{bench_sheet}
 use Rattle.claims_shut_out.specs.Calls.{ten_buffers, buffer, video, reqbufs, qbuf, streamon, dark, white, comes}
 use Rattle.claims_shut_out.specs.Faults.{IdleArrival, LaterPretend, StoredNumbered, YoungestFirst, Out}
-use Rattle.claims_shut_out.proofs.Played.{plain_long, plain_first, plain_zero, dark_long, On, asked, then, arrives, came, then-came, tells, tells-came, goes, four, at_four}
+use Rattle.claims_shut_out.proofs.Played.{plain_long, plain_first, plain_zero, dark_long, On, asked, then, arrives, came, then_came, tells, tells_came, goes, four, at_four}
 
 -- a frame of no bytes
 abbrev torn : Call
@@ -85,7 +85,7 @@ module _ (S : Session) (d : Demand1 bench_sheet dark S) where
 
   pub at_4 : On S d Kind.pictures (reqbufs ∷ qbuf 0 ∷ qbuf 1 ∷ streamon ∷ comes ∷ []) P4
   unfolding P1 P2 P3 P4
-  at_4 = then-came S d Kind.pictures (reqbufs ∷ qbuf 0 ∷ qbuf 1 ∷ streamon ∷ []) P3 white 0 0 (dark Kind.pictures) at_3 first ∙ ap (step P3) (is_whole_law P3 (desk_in bench_sheet S (reqbufs ∷ qbuf 0 ∷ qbuf 1 ∷ streamon ∷ [])).services refl refl)
+  at_4 = then_came S d Kind.pictures (reqbufs ∷ qbuf 0 ∷ qbuf 1 ∷ streamon ∷ []) P3 white 0 0 (dark Kind.pictures) at_3 first ∙ ap (step P3) (is_whole_law P3 (desk_in bench_sheet S (reqbufs ∷ qbuf 0 ∷ qbuf 1 ∷ streamon ∷ [])).services refl refl)
 
   second : arrival_number (S.arrival (reqbufs ∷ qbuf 0 ∷ qbuf 1 ∷ streamon ∷ comes ∷ []) 1 white 0 0 (dark Kind.pictures)) ≡ 0
   unfolding P1 P2 P3 P4
@@ -109,11 +109,11 @@ module _ (S : Session) (d : Demand1 bench_sheet dark S) where
 
   whole_1 : told Kind.pictures (paper_in bench_sheet S Kind.pictures (reqbufs ∷ qbuf 0 ∷ qbuf 1 ∷ streamon ∷ [])) comes (seen_in bench_sheet S (reqbufs ∷ qbuf 0 ∷ qbuf 1 ∷ streamon ∷ []) comes) ≡ whole white (arrival_time 0 0)
   unfolding P1 P2 P3
-  whole_1 = tells-came S d Kind.pictures (reqbufs ∷ qbuf 0 ∷ qbuf 1 ∷ streamon ∷ []) P3 white 0 0 (dark Kind.pictures) at_3 first ∙ is_whole_law P3 (desk_in bench_sheet S (reqbufs ∷ qbuf 0 ∷ qbuf 1 ∷ streamon ∷ [])).services refl refl
+  whole_1 = tells_came S d Kind.pictures (reqbufs ∷ qbuf 0 ∷ qbuf 1 ∷ streamon ∷ []) P3 white 0 0 (dark Kind.pictures) at_3 first ∙ is_whole_law P3 (desk_in bench_sheet S (reqbufs ∷ qbuf 0 ∷ qbuf 1 ∷ streamon ∷ [])).services refl refl
 
   whole_2 : told Kind.pictures (paper_in bench_sheet S Kind.pictures (reqbufs ∷ qbuf 0 ∷ qbuf 1 ∷ streamon ∷ comes ∷ [])) comes (seen_in bench_sheet S (reqbufs ∷ qbuf 0 ∷ qbuf 1 ∷ streamon ∷ comes ∷ []) comes) ≡ whole white (arrival_time 0 0)
   unfolding P1 P2 P3 P4
-  whole_2 = tells-came S d Kind.pictures (reqbufs ∷ qbuf 0 ∷ qbuf 1 ∷ streamon ∷ comes ∷ []) P4 white 0 0 (dark Kind.pictures) at_4 second ∙ is_whole_law P4 (desk_in bench_sheet S (reqbufs ∷ qbuf 0 ∷ qbuf 1 ∷ streamon ∷ comes ∷ [])).services refl refl
+  whole_2 = tells_came S d Kind.pictures (reqbufs ∷ qbuf 0 ∷ qbuf 1 ∷ streamon ∷ comes ∷ []) P4 white 0 0 (dark Kind.pictures) at_4 second ∙ is_whole_law P4 (desk_in bench_sheet S (reqbufs ∷ qbuf 0 ∷ qbuf 1 ∷ streamon ∷ comes ∷ [])).services refl refl
 
   pub tells_3 : (cs : List Call) → events_in bench_sheet S Kind.pictures (reqbufs ∷ qbuf 0 ∷ qbuf 1 ∷ streamon ∷ []) (paper_in bench_sheet S Kind.pictures (reqbufs ∷ qbuf 0 ∷ qbuf 1 ∷ streamon ∷ [])) (comes ∷ cs)
       ≡ whole white (arrival_time 0 0) ∷ events_in bench_sheet S Kind.pictures (reqbufs ∷ qbuf 0 ∷ qbuf 1 ∷ streamon ∷ comes ∷ []) (paper_in bench_sheet S Kind.pictures (reqbufs ∷ qbuf 0 ∷ qbuf 1 ∷ streamon ∷ comes ∷ [])) cs
@@ -142,12 +142,12 @@ module _ (S : Session) (d : Demand1 bench_sheet dark S) where
   takes : (S.request (reqbufs ∷ qbuf 0 ∷ qbuf 1 ∷ streamon ∷ comes ∷ comes ∷ []) 0xC0445611 (buffer 0)).number ≡ 0
   unfolding P1 P2 P3 P4 request_of call_of known_words word_at le32 bytes_of
   takes = asked S d (reqbufs ∷ qbuf 0 ∷ qbuf 1 ∷ streamon ∷ comes ∷ comes ∷ []) (step P4 (whole white (arrival_time 0 0))) 0xC0445611 (buffer 0)
-      (then-came S d Kind.pictures (reqbufs ∷ qbuf 0 ∷ qbuf 1 ∷ streamon ∷ comes ∷ []) P4 white 0 0 (dark Kind.pictures) at_4 second ∙ ap (step P4) (is_whole_law P4 (desk_in bench_sheet S (reqbufs ∷ qbuf 0 ∷ qbuf 1 ∷ streamon ∷ comes ∷ [])).services refl refl)) refl
+      (then_came S d Kind.pictures (reqbufs ∷ qbuf 0 ∷ qbuf 1 ∷ streamon ∷ comes ∷ []) P4 white 0 0 (dark Kind.pictures) at_4 second ∙ ap (step P4) (is_whole_law P4 (desk_in bench_sheet S (reqbufs ∷ qbuf 0 ∷ qbuf 1 ∷ streamon ∷ comes ∷ [])).services refl refl)) refl
 
   -- a frame of no bytes is damaged, and takes number 0: the next is stored as number 1
   at_torn : On S d Kind.pictures (reqbufs ∷ qbuf 0 ∷ qbuf 1 ∷ streamon ∷ torn ∷ []) (step P3 damaged)
   unfolding P1 P2 P3 whole_picture signed
-  at_torn = then-came S d Kind.pictures (reqbufs ∷ qbuf 0 ∷ qbuf 1 ∷ streamon ∷ []) P3 [] 0 0 (dark Kind.pictures) at_3
+  at_torn = then_came S d Kind.pictures (reqbufs ∷ qbuf 0 ∷ qbuf 1 ∷ streamon ∷ []) P3 [] 0 0 (dark Kind.pictures) at_3
       (came S d Kind.pictures (reqbufs ∷ qbuf 0 ∷ qbuf 1 ∷ streamon ∷ []) P3 [] 0 0 (dark Kind.pictures) at_3 (rw (dark_long Kind.pictures)))
 
   second_0 : S.arrival (reqbufs ∷ qbuf 0 ∷ qbuf 1 ∷ streamon ∷ torn ∷ []) 1 white 0 0 (dark Kind.pictures) ≡ Stored 0 1
@@ -165,19 +165,19 @@ module _ (S : Session) (d : Demand1 bench_sheet dark S) where
         ∙ k.asks (reqbufs ∷ []) 0xC044560F (buffer 0) ∙ k.asks [] 0xC0145608 ten_buffers ∙ k.begins
 
     -- the first frame is stored in buffer 0, the second in buffer 1
-    stored-0 : (S.arrival (reqbufs ∷ qbuf 0 ∷ qbuf 1 ∷ streamon ∷ []) 1 white 0 0 (dark Kind.pictures) ≡ Stored 0 0)
+    stored_0 : (S.arrival (reqbufs ∷ qbuf 0 ∷ qbuf 1 ∷ streamon ∷ []) 1 white 0 0 (dark Kind.pictures) ≡ Stored 0 0)
         × (take (length white) (drop (slot_offset 0 (paper_in bench_sheet S Kind.pictures (reqbufs ∷ qbuf 0 ∷ qbuf 1 ∷ streamon ∷ [])).size) (S.memory Kind.pictures (reqbufs ∷ qbuf 0 ∷ qbuf 1 ∷ streamon ∷ comes ∷ []))) ≡ white)
     unfolding P1 P2 P3 request_of call_of known_words word_at le32 bytes_of
-    stored-0 =
+    stored_0 =
         let (x, y) = k.stored (reqbufs ∷ []) 0xC044560F (buffer 0) (qbuf 1 ∷ streamon ∷ []) white 0 0 (dark Kind.pictures)
         (refl, refl, hand_0, rw after_0 tt)
         (ap wholes after_0 ∙ sym (ap (λ (p : Paper). length p.incoming) (at_four S d)))
         whole_1 in
         (x ∙ ap (λ (p : Paper). Stored 0 (reduced p.run.accepted)) at_3, y)
 
-    stored-1 : take (length white) (drop (slot_offset 1 614400) (S.memory Kind.pictures (reqbufs ∷ qbuf 0 ∷ qbuf 1 ∷ streamon ∷ comes ∷ comes ∷ []))) ≡ white
+    stored_1 : take (length white) (drop (slot_offset 1 614400) (S.memory Kind.pictures (reqbufs ∷ qbuf 0 ∷ qbuf 1 ∷ streamon ∷ comes ∷ comes ∷ []))) ≡ white
     unfolding P1 P2 P3 P4 request_of call_of known_words word_at le32 bytes_of
-    stored-1 =
+    stored_1 =
         let (x, y) = k.stored (reqbufs ∷ qbuf 0 ∷ []) 0xC044560F (buffer 1) (streamon ∷ comes ∷ []) white 0 0 (dark Kind.pictures)
         (refl, refl, hand_1, rw after_1 tt)
         (ap wholes after_1 ∙ sym (ap (λ (p : Paper). length p.incoming) at_1))
@@ -210,7 +210,7 @@ idle_arrival M fault meets =
     let k : Demand3 bench_sheet dark S Kind.pictures = meets.demand_3 bench_sheet dark Kind.pictures in
     let same : S.memory Kind.pictures (reqbufs ∷ qbuf 0 ∷ qbuf 1 ∷ streamon ∷ comes ∷ []) ≡ dark Kind.pictures = fault bench_sheet dark (reqbufs ∷ qbuf 0 ∷ qbuf 1 ∷ streamon ∷ []) white 0 0 (dark Kind.pictures) ∙ unwritten S d k in
     let n : ℕ = slot_offset 0 (paper_in bench_sheet S Kind.pictures (reqbufs ∷ qbuf 0 ∷ qbuf 1 ∷ streamon ∷ [])).size in
-    no_white (dark Kind.pictures) n (plain_zero 2457600 (n + 0)) (ap (λ (m : List ℕ). take (length white) (drop n m)) (sym same) ∙ (stored-0 S d k).1)
+    no_white (dark Kind.pictures) n (plain_zero 2457600 (n + 0)) (ap (λ (m : List ℕ). take (length white) (drop n m)) (sym same) ∙ (stored_0 S d k).1)
 
 pub later_pretend_law : Out LaterPretend
 unfolding slot_size
@@ -220,12 +220,12 @@ later_pretend_law M fault meets =
     let k : Demand3 bench_sheet dark S Kind.pictures = meets.demand_3 bench_sheet dark Kind.pictures in
     let cs : List Call = reqbufs ∷ qbuf 0 ∷ qbuf 1 ∷ streamon ∷ [] in
     let one : S.memory Kind.pictures (more cs comes) ≡ sets (dark Kind.pictures) (slot_offset 0 (paper_in bench_sheet S Kind.pictures cs).size) white =
-    k.writes cs white 0 0 (dark Kind.pictures) ∙ ap₂ (λ (r : Arrival) (m : List ℕ). written_by r (paper_in bench_sheet S Kind.pictures cs).size m white) (stored-0 S d k).0 (unwritten S d k) in
-    let two : S.memory Kind.pictures (more (more cs comes) comes) ≡ S.memory Kind.pictures (more cs comes) = fault bench_sheet dark cs white 0 0 (dark Kind.pictures) 0 0 [] white 0 0 (dark Kind.pictures) (stored-0 S d k).0 in
+    k.writes cs white 0 0 (dark Kind.pictures) ∙ ap₂ (λ (r : Arrival) (m : List ℕ). written_by r (paper_in bench_sheet S Kind.pictures cs).size m white) (stored_0 S d k).0 (unwritten S d k) in
+    let two : S.memory Kind.pictures (more (more cs comes) comes) ≡ S.memory Kind.pictures (more cs comes) = fault bench_sheet dark cs white 0 0 (dark Kind.pictures) 0 0 [] white 0 0 (dark Kind.pictures) (stored_0 S d k).0 in
     let zero : get_or (sets (dark Kind.pictures) (slot_offset 0 (paper_in bench_sheet S Kind.pictures cs).size) white) (slot_offset 1 614400 + 0) 0 ≡ 0 =
     sets_behind white (dark Kind.pictures) (slot_offset 0 (paper_in bench_sheet S Kind.pictures cs).size) (slot_offset 1 614400 + 0) 0 (omega (arith, plain_long 614400 1)) ∙ plain_zero 2457600 (slot_offset 1 614400 + 0) in
     no_white (sets (dark Kind.pictures) (slot_offset 0 (paper_in bench_sheet S Kind.pictures cs).size) white) (slot_offset 1 614400) zero
-    (ap (λ (m : List ℕ). take (length white) (drop (slot_offset 1 614400) m)) (sym (two ∙ one)) ∙ stored-1 S d k)
+    (ap (λ (m : List ℕ). take (length white) (drop (slot_offset 1 614400) m)) (sym (two ∙ one)) ∙ stored_1 S d k)
 
 pub stored_numbered_law : Out StoredNumbered
 unfolding P1 P2 P3

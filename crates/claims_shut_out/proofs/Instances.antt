@@ -227,11 +227,11 @@ module _ (s : List ℕ) (S : Session) (m f : List ℕ) (x y : ℕ) (other : List
 
   first_only : (cs h ds : List Call) → S.arrival (h ++ cs) 1 f x y other ≡ Stored k n
       → filled_once s S m h (cs ++ arrival 1 f x y other ∷ ds) ≡ filled_once s S m h (cs ++ arrival 1 f x y other ∷ [])
-  first_only [] h ds e = ap (λ (r : Arrival). if_stored r (full h f) (filled_once s S m (more h (arrival 1 f x y other)) ds)) at-h
-      ∙ sym (ap (λ (r : Arrival). if_stored r (full h f) m) at-h)
+  first_only [] h ds e = ap (λ (r : Arrival). if_stored r (full h f) (filled_once s S m (more h (arrival 1 f x y other)) ds)) at_h
+      ∙ sym (ap (λ (r : Arrival). if_stored r (full h f) m) at_h)
     where
-      at-h : S.arrival h 1 f x y other ≡ Stored k n
-      at-h = ap (λ (l : List Call). S.arrival l 1 f x y other) (sym (append-nil h)) ∙ e
+      at_h : S.arrival h 1 f x y other ≡ Stored k n
+      at_h = ap (λ (l : List Call). S.arrival l 1 f x y other) (sym (append-nil h)) ∙ e
   first_only (request w a ∷ cs) h ds e =
       first_only cs (more h (request w a)) ds (ap (λ (l : List Call). S.arrival l 1 f x y other) (append_assoc h (request w a ∷ []) cs) ∙ e)
   first_only (change c t i l ∷ cs) h ds e =

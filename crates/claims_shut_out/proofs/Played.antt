@@ -128,15 +128,15 @@ module _ (S : Session) (d : Demand1 bench_sheet dark S) where
         → On k (more cs (request w a)) (step P (told_by k P (request_of w).call a (S.request cs w a).argument))
     then w a e h = paper_more bench_sheet S k cs (request w a) ∙ ap₂ step e (tells w a e h)
 
-    pub tells-came : (f : List ℕ) (x y : ℕ) (other : List ℕ) → On k cs P → arrival_number (S.arrival cs (type_of k) f x y other) ≡ 0
+    pub tells_came : (f : List ℕ) (x y : ℕ) (other : List ℕ) → On k cs P → arrival_number (S.arrival cs (type_of k) f x y other) ≡ 0
         → told k (paper_in bench_sheet S k cs) (arrival (type_of k) f x y other) (seen_in bench_sheet S cs (arrival (type_of k) f x y other))
         ≡ cond P.running (arrival_told k P (desk_in bench_sheet S cs).services f x y) idle
-    tells-came f x y other e h =
+    tells_came f x y other e h =
         ap (λ (p : Paper). told k p (arrival (type_of k) f x y other) (seen_in bench_sheet S cs (arrival (type_of k) f x y other))) e ∙ told_arrival bench_sheet S k cs P f x y other h
 
-    pub then-came : (f : List ℕ) (x y : ℕ) (other : List ℕ) → On k cs P → arrival_number (S.arrival cs (type_of k) f x y other) ≡ 0
+    pub then_came : (f : List ℕ) (x y : ℕ) (other : List ℕ) → On k cs P → arrival_number (S.arrival cs (type_of k) f x y other) ≡ 0
         → On k (more cs (arrival (type_of k) f x y other)) (step P (cond P.running (arrival_told k P (desk_in bench_sheet S cs).services f x y) idle))
-    then-came f x y other e h = paper_more bench_sheet S k cs (arrival (type_of k) f x y other) ∙ ap₂ step e (tells-came f x y other e h)
+    then_came f x y other e h = paper_more bench_sheet S k cs (arrival (type_of k) f x y other) ∙ ap₂ step e (tells_came f x y other e h)
 
   -- ---- ten asked, four granted
   pub asks_ten : (S.request [] 0xC0145608 ten_buffers).number ≡ 0

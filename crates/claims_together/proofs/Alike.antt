@@ -73,8 +73,8 @@ module _ (s : List ℕ) (m : Kind → List ℕ) (S T : Session) (t : Told s m S)
         ∙ ap₂ (λ (n : ℕ) (P : Kind → Paper). first_number (request_tests n s P w a)) same_opening e.papers
         ∙ sym (u.one.requests h w a)
 
-    same-argument : (w : ℕ) (a : List ℕ) → (S.request h w a).argument ≡ (T.request h w a).argument
-    same-argument w a = go (eqb (S.request h w a).number 0) refl
+    same_argument : (w : ℕ) (a : List ℕ) → (S.request h w a).argument ≡ (T.request h w a).argument
+    same_argument w a = go (eqb (S.request h w a).number 0) refl
       where
         go : (x : Bool) → eqb (S.request h w a).number 0 ≡ x → (S.request h w a).argument ≡ (T.request h w a).argument
         go true z =
@@ -86,8 +86,8 @@ module _ (s : List ℕ) (m : Kind → List ℕ) (S T : Session) (t : Told s m S)
             let n = eqb-false (S.request h w a).number 0 z in
             (t.one.kept h w a n).0 ∙ sym (u.one.kept h w a (λ k. n (same_number w a ∙ k))).0
 
-    same-arrival : (i : ℕ) (f : List ℕ) (x y : ℕ) (other : List ℕ) → S.arrival h i f x y other ≡ T.arrival h i f x y other
-    same-arrival i f x y other =
+    same_arrival : (i : ℕ) (f : List ℕ) (x y : ℕ) (other : List ℕ) → S.arrival h i f x y other ≡ T.arrival h i f x y other
+    same_arrival i f x y other =
         t.one.arrivals h i f x y other
         ∙ ap₂ (λ (n : ℕ) (q : Desk). answer n (papers_in s S h) q) same_opening e.desk
         ∙ ap (λ (P : Kind → Paper). answer T.opening P (desk_in s T h)) e.papers
@@ -96,28 +96,28 @@ module _ (s : List ℕ) (m : Kind → List ℕ) (S T : Session) (t : Told s m S)
         answer : ℕ → (Kind → Paper) → Desk → Arrival
         answer n P q = refused_by (arrival_tests n (λ k. length (m k)) P i (length other)) (arrived_on (kind_of i) (P (kind_of i)) q.services f (arrival_time x y))
 
-    same-leaves : (i : ℕ) (f : List ℕ) (x y : ℕ) (other : List ℕ) → S.leaves h i f x y other ≡ T.leaves h i f x y other
-    same-leaves i f x y other = by_type_law (λ (i : ℕ). S.leaves h i f x y other ≡ T.leaves h i f x y other) lent none i
+    same_leaves : (i : ℕ) (f : List ℕ) (x y : ℕ) (other : List ℕ) → S.leaves h i f x y other ≡ T.leaves h i f x y other
+    same_leaves i f x y other = by_type_law (λ (i : ℕ). S.leaves h i f x y other ≡ T.leaves h i f x y other) lent none i
       where
         lent : (k : Kind) → S.leaves h (type_of k) f x y other ≡ T.leaves h (type_of k) f x y other
         lent k =
             (t.three k).lends h f x y other
-            ∙ ap₂ (λ (r : Arrival) (p : Paper). written_by r p.size other f) (same-arrival (type_of k) f x y other) (same_paper k)
+            ∙ ap₂ (λ (r : Arrival) (p : Paper). written_by r p.size other f) (same_arrival (type_of k) f x y other) (same_paper k)
             ∙ sym ((u.three k).lends h f x y other)
 
         none : (i : ℕ) → i ≢ type_of Kind.pictures → i ≢ type_of Kind.captions → S.leaves h i f x y other ≡ T.leaves h i f x y other
         none i p c = t.all.untouched h i f x y other p c ∙ sym (u.all.untouched h i f x y other p c)
 
-    same-change : (c : Change) (i o l : ℕ) → S.change h c i o l ≡ T.change h c i o l
-    same-change c i o l =
+    same_change : (c : Change) (i o l : ℕ) → S.change h c i o l ≡ T.change h c i o l
+    same_change c i o l =
         t.one.changes h c i o l
         ∙ ap₂ (λ (n : ℕ) (P : Kind → Paper). first_number (change_tests n P c i o l)) same_opening e.papers
         ∙ sym (u.one.changes h c i o l)
 
     same_reply : (c : Call) → reply_in S h c ≡ reply_in T h c
-    same_reply (request w a) = ap₂ answered (same_number w a) (same-argument w a)
-    same_reply (arrival i f x y other) = ap taken (same-arrival i f x y other)
-    same_reply (change c i o l) = ap numbered (same-change c i o l)
+    same_reply (request w a) = ap₂ answered (same_number w a) (same_argument w a)
+    same_reply (arrival i f x y other) = ap taken (same_arrival i f x y other)
+    same_reply (change c i o l) = ap numbered (same_change c i o l)
 
     same_seen : (c : Call) → seen_in s S h c ≡ seen_in s T h c
     same_seen c = ap₂ (λ (r : Reply) (q : Desk). (r, q.services)) (same_reply c) e.desk
@@ -130,7 +130,7 @@ module _ (s : List ℕ) (m : Kind → List ℕ) (S T : Session) (t : Told s m S)
         here : S.memory k (more h (arrival (type_of k) f x y other)) ≡ T.memory k (more h (arrival (type_of k) f x y other))
         here =
             (t.three k).writes h f x y other
-            ∙ ap (λ (r : Arrival). written_by r (paper_in s S k h).size (S.memory k h) f) (same-arrival (type_of k) f x y other)
+            ∙ ap (λ (r : Arrival). written_by r (paper_in s S k h).size (S.memory k h) f) (same_arrival (type_of k) f x y other)
             ∙ ap₂ (λ (p : Paper) (l : List ℕ). written_by (T.arrival h (type_of k) f x y other) p.size l f) (same_paper k) (e.memory k)
             ∙ sym ((u.three k).writes h f x y other)
 
@@ -176,7 +176,7 @@ module _ (s : List ℕ) (m : Kind → List ℕ) (S T : Session) (t : Told s m S)
   same_plane cs n k = t.all.planes cs n k ∙ ap₂ (λ (o : ℕ) (q : Desk). plane_on o s q n k) same_opening (alike cs).desk ∙ sym (u.all.planes cs n k)
 
   same_request : (cs : List Call) (w : ℕ) (a : List ℕ) → S.request cs w a ≡ T.request cs w a
-  same_request cs w a = ap₂ (λ (n : ℕ) (l : List ℕ). record { number = n; argument = l }) (same_number cs (alike cs) w a) (same-argument cs (alike cs) w a)
+  same_request cs w a = ap₂ (λ (n : ℕ) (l : List ℕ). record { number = n; argument = l }) (same_number cs (alike cs) w a) (same_argument cs (alike cs) w a)
 
   -- all that can be seen is the same, so the sessions are
   same_session : S ≡ T
@@ -186,11 +186,11 @@ module _ (s : List ℕ) (m : Kind → List ℕ) (S T : Session) (t : Told s m S)
       same_opening (fun_ext λ cs. fun_ext λ w. fun_ext λ a. same_request cs w a)
       ∙ ap₂ (λ (r : List Call → ℕ → List ℕ → ℕ → ℕ → List ℕ → Arrival) (l : List Call → ℕ → List ℕ → ℕ → ℕ → List ℕ → List ℕ).
       record { opening = T.opening; request = T.request; arrival = r; leaves = l; change = S.change; memory = S.memory; counts = S.counts; verdict = S.verdict; plane = S.plane })
-      (fun_ext λ cs. fun_ext λ i. fun_ext λ f. fun_ext λ x. fun_ext λ y. fun_ext λ other. same-arrival cs (alike cs) i f x y other)
-      (fun_ext λ cs. fun_ext λ i. fun_ext λ f. fun_ext λ x. fun_ext λ y. fun_ext λ other. same-leaves cs (alike cs) i f x y other)
+      (fun_ext λ cs. fun_ext λ i. fun_ext λ f. fun_ext λ x. fun_ext λ y. fun_ext λ other. same_arrival cs (alike cs) i f x y other)
+      (fun_ext λ cs. fun_ext λ i. fun_ext λ f. fun_ext λ x. fun_ext λ y. fun_ext λ other. same_leaves cs (alike cs) i f x y other)
       ∙ ap (λ (c : List Call → Change → ℕ → ℕ → ℕ → ℕ).
       record { opening = T.opening; request = T.request; arrival = T.arrival; leaves = T.leaves; change = c; memory = S.memory; counts = S.counts; verdict = S.verdict; plane = S.plane })
-      (fun_ext λ cs. fun_ext λ c. fun_ext λ i. fun_ext λ o. fun_ext λ l. same-change cs (alike cs) c i o l)
+      (fun_ext λ cs. fun_ext λ c. fun_ext λ i. fun_ext λ o. fun_ext λ l. same_change cs (alike cs) c i o l)
       ∙ ap₂ (λ (l : Kind → List Call → List ℕ) (r : Kind → List Call → Run).
       record { opening = T.opening; request = T.request; arrival = T.arrival; leaves = T.leaves; change = T.change; memory = l; counts = r; verdict = S.verdict; plane = S.plane })
       (fun_ext λ k. fun_ext λ cs. (alike cs).memory k) (fun_ext λ k. fun_ext λ cs. same_counts k cs)

@@ -67,18 +67,18 @@ module _ (s : List ℕ) (q : Desk) where
 
 -- a call that is no accepted S_CROP leaves it
 crop_stays : (s : List ℕ) (S : Session) (cs : List Call) (c : Call) → SetsNoCrop S cs c → (desk_in s S (more cs c)).crop ≡ (desk_in s S cs).crop
-crop_stays s S cs c none = ap (λ (q : Desk). q.crop) (desk_more s S cs c) ∙ by-call-made c none
+crop_stays s S cs c none = ap (λ (q : Desk). q.crop) (desk_more s S cs c) ∙ by_call_made c none
   where
-    answered-with : (w : ℕ) (a : List ℕ) → SetsNoCrop S cs (request w a) → (x : Bool) → eqb (S.request cs w a).number 0 ≡ x
+    answered_with : (w : ℕ) (a : List ℕ) → SetsNoCrop S cs (request w a) → (x : Bool) → eqb (S.request cs w a).number 0 ≡ x
         → (cond x (chosen s (desk_in s S cs) (request_of w).call a (S.request cs w a).argument) (desk_in s S cs)).crop ≡ (desk_in s S cs).crop
-    answered-with w a none true e =
+    answered_with w a none true e =
         ⊎_elim (λ l. l) (λ is. absurd (none w a refl is (eqb-true (S.request cs w a).number 0 e))) (crop_left s (desk_in s S cs) (request_of w).call a (S.request cs w a).argument)
-    answered-with w a none false e = refl
+    answered_with w a none false e = refl
 
-    by-call-made : (c : Call) → SetsNoCrop S cs c → (choice s (desk_in s S cs) c (reply_in S cs c)).crop ≡ (desk_in s S cs).crop
-    by-call-made (request w a) none = answered-with w a none (eqb (S.request cs w a).number 0) refl
-    by-call-made (arrival t f x y other) none = refl
-    by-call-made (change c t o l) none = refl
+    by_call_made : (c : Call) → SetsNoCrop S cs c → (choice s (desk_in s S cs) c (reply_in S cs c)).crop ≡ (desk_in s S cs).crop
+    by_call_made (request w a) none = answered_with w a none (eqb (S.request cs w a).number 0) refl
+    by_call_made (arrival t f x y other) none = refl
+    by_call_made (change c t o l) none = refl
 
 -- ---- it was always taken in the bounds
 
@@ -129,30 +129,30 @@ module _ (s : List ℕ) (m : Kind → List ℕ) (S : Session) (d : Demand1 s m S
     sheet = good s m S d cs t.word t.argument t.got
 
     -- the crop on the desk lies inside the sheet's bounds
-    desk-inside : default_ok (crop_bounds s) (desk_in s S cs).crop ≡ true
-    desk-inside = let (a, e) = taken_always s S cs in rw e (inside_both (crop_bounds s) a (bounds_good s sheet))
+    desk_inside : default_ok (crop_bounds s) (desk_in s S cs).crop ≡ true
+    desk_inside = let (a, e) = taken_always s S cs in rw e (inside_both (crop_bounds s) a (bounds_good s sheet))
 
-    crop-is : crop_in S cs t ≡ (desk_in s S cs).crop
-    crop-is =
+    crop_is : crop_in S cs t ≡ (desk_in s S cs).crop
+    crop_is =
         ap (λ (b : List ℕ). rect_at b 4) (answer_to cs t.word t.argument GCrop t.is_get t.got)
-        ∙ crop_back (desk_in s S cs).crop (held (crop_bounds s) (desk_in s S cs).crop (bounds_good s sheet) desk-inside)
+        ∙ crop_back (desk_in s S cs).crop (held (crop_bounds s) (desk_in s S cs).crop (bounds_good s sheet) desk_inside)
 
-    limits-are : (S.request cs t.limits_word t.limits_argument).argument ≡ crop_capability_reply s
-    limits-are = answer_to cs t.limits_word t.limits_argument Cropcap t.is_limits t.limits_got
+    limits_are : (S.request cs t.limits_word t.limits_argument).argument ≡ crop_capability_reply s
+    limits_are = answer_to cs t.limits_word t.limits_argument Cropcap t.is_limits t.limits_got
 
-    pub bounds-are : bounds_in S cs t ≡ crop_bounds s
-    bounds-are = ap (λ (b : List ℕ). rect_at b 4) limits-are ∙ bounds_back s (held (crop_bounds s) (crop_bounds s) (bounds_good s sheet) (bounds_inside s sheet))
+    pub bounds_are : bounds_in S cs t ≡ crop_bounds s
+    bounds_are = ap (λ (b : List ℕ). rect_at b 4) limits_are ∙ bounds_back s (held (crop_bounds s) (crop_bounds s) (bounds_good s sheet) (bounds_inside s sheet))
 
-    default-is : default_in S cs t ≡ crop_default s
-    default-is = ap (λ (b : List ℕ). rect_at b 20) limits-are ∙ default_back s (held (crop_bounds s) (crop_default s) (bounds_good s sheet) (default_inside s sheet))
+    default_is : default_in S cs t ≡ crop_default s
+    default_is = ap (λ (b : List ℕ). rect_at b 20) limits_are ∙ default_back s (held (crop_bounds s) (crop_default s) (bounds_good s sheet) (default_inside s sheet))
 
-    lies-inside : default_ok (bounds_in S cs t) (crop_in S cs t) ≡ true
-    lies-inside = ap₂ default_ok bounds-are crop-is ∙ desk-inside
+    lies_inside : default_ok (bounds_in S cs t) (crop_in S cs t) ≡ true
+    lies_inside = ap₂ default_ok bounds_are crop_is ∙ desk_inside
 
-    lies-even : distance (bounds_in S cs t).top (crop_in S cs t).top % 2 ≡ 0
-    lies-even =
+    lies_even : distance (bounds_in S cs t).top (crop_in S cs t).top % 2 ≡ 0
+    lies_even =
         let (a, e) = taken_always s S cs in
-        ap₂ (λ (b r : Rect). distance b.top r.top % 2) bounds-are (crop-is ∙ e) ∙ (last_even_top (crop_bounds s) a).even
+        ap₂ (λ (b r : Rect). distance b.top r.top % 2) bounds_are (crop_is ∙ e) ∙ (last_even_top (crop_bounds s) a).even
 
   -- the crop that an accepted S_CROP puts on the desk
   chosen_crop : (cs : List Call) (w : ℕ) (a : List ℕ) → (request_of w).call ≡ SCrop → (S.request cs w a).number ≡ 0 → (desk_in s S (more cs (request w a))).crop ≡ clamped (crop_bounds s) (asked_crop a)
@@ -164,12 +164,12 @@ module _ (s : List ℕ) (m : Kind → List ℕ) (S : Session) (d : Demand1 s m S
   fields_apart_law = record {
     told = λ cs w a opened e long type. by_call s m Kind.pictures S d cs w a GCrop e ∙ rw (opened, long, type);
     limits_told = λ cs w a opened e long type. by_call s m Kind.pictures S d cs w a Cropcap e ∙ rw (opened, long, type);
-    inside = lies-inside;
-    even = lies-even;
-    opening = λ t. crop-is [] t ∙ opening_taken s (sheet [] t) ∙ sym (ap₂ top_apart (bounds-are [] t) (default-is [] t));
+    inside = lies_inside;
+    even = lies_even;
+    opening = λ t. crop_is [] t ∙ opening_taken s (sheet [] t) ∙ sym (ap₂ top_apart (bounds_are [] t) (default_is [] t));
     set = λ cs w a e z t.
-        crop-is (more cs (request w a)) t
+        crop_is (more cs (request w a)) t
         ∙ chosen_crop cs w a e z
-        ∙ ap (λ (b : Rect). clamped b (asked_crop a)) (sym (bounds-are (more cs (request w a)) t));
-    stays = λ cs c none t u. crop-is (more cs c) u ∙ crop_stays s S cs c none ∙ sym (crop-is cs t);
+        ∙ ap (λ (b : Rect). clamped b (asked_crop a)) (sym (bounds_are (more cs (request w a)) t));
+    stays = λ cs c none t u. crop_is (more cs c) u ∙ crop_stays s S cs c none ∙ sym (crop_is cs t);
   }

@@ -331,24 +331,24 @@ module _ (s : List ℕ) (m : Kind → List ℕ) (S : Session) (k : Kind) (d : De
         (past (no_stream (word_at a 4)) (λ n. omega (arith, n)) r3).1
 
     -- what an accepted one answers
-    answer-is : (c : Asked) → (request_of w).call ≡ c → (S.request cs w a).argument ≡ answer_on s (λ j. length (m j)) (papers_in s S cs) (desk_in s S cs) c a
-    answer-is c e = all.arguments cs w a z ∙ ap (λ (x : Asked). answer_on s (λ j. length (m j)) (papers_in s S cs) (desk_in s S cs) x a) e
+    answer_is : (c : Asked) → (request_of w).call ≡ c → (S.request cs w a).argument ≡ answer_on s (λ j. length (m j)) (papers_in s S cs) (desk_in s S cs) c a
+    answer_is c e = all.arguments cs w a z ∙ ap (λ (x : Asked). answer_on s (λ j. length (m j)) (papers_in s S cs) (desk_in s S cs) x a) e
 
-    pub by-query : (request_of w).call ≡ Querybuf → TellsIt (paper_in s S k cs) (word_at a 0) (S.request cs w a).argument
-    by-query e =
+    pub by_query : (request_of w).call ≡ Querybuf → TellsIt (paper_in s S k cs) (word_at a 0) (S.request cs w a).argument
+    by_query e =
         let r = tests_left Querybuf e (omega arith) (by_call s m k S d cs w a Querybuf e) in
         let (i, r1) = past (leb (paper_at (papers_in s S cs) a 4).granted (word_at a 0)) (λ n. omega (arith, n)) r in
         let below : word_at a 0 < (paper_in s S k cs).granted = omega (arith, leb-false (paper_at (papers_in s S cs) a 4).granted (word_at a 0) i, ap (λ (p : Paper). p.granted) same) in
-        subst (TellsIt (paper_in s S k cs) (word_at a 0)) (sym (answer-is Querybuf e ∙ ap (λ (p : Paper). buffer_reply (word_at a 4) (status_on p (word_at a 0))) same))
+        subst (TellsIt (paper_in s S k cs) (word_at a 0)) (sym (answer_is Querybuf e ∙ ap (λ (p : Paper). buffer_reply (word_at a 4) (status_on p (word_at a 0))) same))
         (described_told (paper_in s S k cs) (word_at a 4) (word_at a 0) (standing_of (queues_on (paper_in s S k cs)) (word_at a 0)) _ below (q.room cs))
 
-    by-queue : (request_of w).call ≡ Qbuf → TellsIt (paper_in s S k cs) (word_at a 0) (S.request cs w a).argument
-    by-queue e =
+    by_queue : (request_of w).call ≡ Qbuf → TellsIt (paper_in s S k cs) (word_at a 0) (S.request cs w a).argument
+    by_queue e =
         let r = tests_left Qbuf e (omega arith) (by_call s m k S d cs w a Qbuf e) in
         let (i, r1) = past (not (eqb (word_at a 48) 1)) (λ n. omega (arith, n)) r in
         let (j, r2) = past (leb (paper_at (papers_in s S cs) a 4).granted (word_at a 0)) (λ n. omega (arith, n)) r1 in
         let below : word_at a 0 < (paper_in s S k cs).granted = omega (arith, leb-false (paper_at (papers_in s S cs) a 4).granted (word_at a 0) j, ap (λ (p : Paper). p.granted) same) in
-        subst (TellsIt (paper_in s S k cs) (word_at a 0)) (sym (answer-is Qbuf e ∙ ap (λ (p : Paper). buffer_reply (word_at a 4) (status_on (step p (put (word_at a 0))) (word_at a 0))) same))
+        subst (TellsIt (paper_in s S k cs) (word_at a 0)) (sym (answer_is Qbuf e ∙ ap (λ (p : Paper). buffer_reply (word_at a 4) (status_on (step p (put (word_at a 0))) (word_at a 0))) same))
         (described_told (paper_in s S k cs) (word_at a 4) (word_at a 0) (standing_of (queues_on (step (paper_in s S k cs) (put (word_at a 0)))) (word_at a 0)) _ below (q.room cs))
 
     by_dequeue : (request_of w).call ≡ Dqbuf → TellsIt (paper_in s S k cs) (first_on (paper_in s S k cs).outgoing).index (S.request cs w a).argument
@@ -362,26 +362,26 @@ module _ (s : List ℕ) (m : Kind → List ℕ) (S : Session) (k : Kind) (d : De
         let p : Paper = paper_in s S k cs in
         let f : Filled = first_on p.outgoing in
         let below = first_below_law p.outgoing p.incoming p.granted (q.sound cs).below (ap (λ (y : Paper). eqb (length y.outgoing) 0) (sym same) ∙ v) in
-        subst (TellsIt p f.index) (sym (answer-is Dqbuf e ∙ ap (λ (y : Paper). buffer_reply (word_at a 4) (returned_of y.maps (first_on y.outgoing) y.size)) same))
+        subst (TellsIt p f.index) (sym (answer_is Dqbuf e ∙ ap (λ (y : Paper). buffer_reply (word_at a 4) (returned_of y.maps (first_on y.outgoing) y.size)) same))
         (described_told p (word_at a 4) f.index Dequeued f below (q.room cs))
 
     pub tells : TellsBuffer (request_of w).call → Tells (paper_in s S k cs) (S.request cs w a).argument
-    tells c = ⊎_elim (λ e. record { index = word_at a 0; it = by-query e }) (λ h. ⊎_elim (λ e. record { index = word_at a 0; it = by-queue e }) (λ e. record { index = _; it = by_dequeue e }) h) c
+    tells c = ⊎_elim (λ e. record { index = word_at a 0; it = by_query e }) (λ h. ⊎_elim (λ e. record { index = word_at a 0; it = by_queue e }) (λ e. record { index = _; it = by_dequeue e }) h) c
 
   -- the count of a place that is told is that of its buffer
   module _ (cs : List Call) (j : ℕ) (below : j < (paper_in s S k cs).granted) where
-    some-slot : 0 < slot_size (paper_in s S k cs).size
-    some-slot = (q.sound cs).slots (omega arith)
+    some_slot : 0 < slot_size (paper_in s S k cs).size
+    some_slot = (q.sound cs).slots (omega arith)
 
-    buffer-value : value (paper_in s S k cs) (slot_offset j (paper_in s S k cs).size) (slot_size (paper_in s S k cs).size) ≡ maps_of (paper_in s S k cs).maps j
-    buffer-value =
+    buffer_value : value (paper_in s S k cs) (slot_offset j (paper_in s S k cs).size) (slot_size (paper_in s S k cs).size) ≡ maps_of (paper_in s S k cs).maps j
+    buffer_value =
         let p : Paper = paper_in s S k cs in
-        rw (slot_of 32 p.size j (omega (arith, (q.sound cs).few)) some-slot, buffer_of_law j p.size some-slot)
+        rw (slot_of 32 p.size j (omega (arith, (q.sound cs).few)) some_slot, buffer_of_law j p.size some_slot)
 
-    place-balance : accepted S k Map (slot_offset j (paper_in s S k cs).size) (slot_size (paper_in s S k cs).size) cs
+    place_balance : accepted S k Map (slot_offset j (paper_in s S k cs).size) (slot_size (paper_in s S k cs).size) cs
         ≡ accepted S k Unmap (slot_offset j (paper_in s S k cs).size) (slot_size (paper_in s S k cs).size) cs + maps_of (paper_in s S k cs).maps j
-    place-balance = balance s m S k d q (slot_offset j (paper_in s S k cs).size) (slot_size (paper_in s S k cs).size) cs
-        ∙ ap (λ (n : ℕ). accepted S k Unmap (slot_offset j (paper_in s S k cs).size) (slot_size (paper_in s S k cs).size) cs + n) buffer-value
+    place_balance = balance s m S k d q (slot_offset j (paper_in s S k cs).size) (slot_size (paper_in s S k cs).size) cs
+        ∙ ap (λ (n : ℕ). accepted S k Unmap (slot_offset j (paper_in s S k cs).size) (slot_size (paper_in s S k cs).size) cs + n) buffer_value
 
   -- a device with a map, or a buffer, is open
   opened_by_law : (cs : List Call) → (paper_in s S k cs ≡ blank (opening_size s k) → ⊥) → S.opening ≡ 0
@@ -438,11 +438,11 @@ module _ (s : List ℕ) (m : Kind → List ℕ) (S : Session) (k : Kind) (d : De
       (sym (by_call s m k S d cs w a Reqbufs e) ∙ z) in
       let p : Paper = paper_in s S k cs in
       let (j, some) = mapped_one p.maps (ap (λ (y : Paper). any_mapped y.maps) (sym (paper_at_law s m k S d cs a 4 type)) ∙ mapped) in
-      let below : j < p.granted = granted-one j some in
-      (slot_offset j p.size, slot_size p.size, omega (arith, place-balance cs j below, some))
+      let below : j < p.granted = granted_one j some in
+      (slot_offset j p.size, slot_size p.size, omega (arith, place_balance cs j below, some))
     where
-      granted-one : (j : ℕ) → 0 < maps_of (paper_in s S k cs).maps j → j < (paper_in s S k cs).granted
-      granted-one j some = by (leb (paper_in s S k cs).granted j) refl
+      granted_one : (j : ℕ) → 0 < maps_of (paper_in s S k cs).maps j → j < (paper_in s S k cs).granted
+      granted_one j some = by (leb (paper_in s S k cs).granted j) refl
         where
           by : (b : Bool) → leb (paper_in s S k cs).granted j ≡ b → j < (paper_in s S k cs).granted
           by true e = absurd (omega (arith, some, (q.sound cs).maps.spare j (leb-true (paper_in s S k cs).granted j e)))
@@ -463,7 +463,7 @@ module _ (s : List ℕ) (m : Kind → List ℕ) (S : Session) (k : Kind) (d : De
             ∙ accepts (not (eqb S.opening 0)) (not (eqb (length a) 68)) (no_stream (word_at a 4)) (leb (paper_at (papers_in s S cs) a 4).granted (word_at a 0))
             (ap (λ (n : ℕ). not (eqb n 0)) open_is) (ap (λ (n : ℕ). not (eqb n 68)) long) (names k (word_at a 4) type).1
             (ap₂ (λ (y : Paper) (n : ℕ). leb y.granted n) (paper_at_law s m k S d cs a 4 type) index ∙ lt-leb p.granted (buffer_at p.size o) is.3) in
-            let t = by-query cs w a type z e in
+            let t = by_query cs w a type z e in
             (z, t.offset ∙ ap (λ (n : ℕ). slot_offset n p.size) index ∙ sym is.2, t.slot ∙ sym is.1),
       )
 
@@ -493,7 +493,7 @@ module _ (s : List ℕ) (m : Kind → List ℕ) (S : Session) (k : Kind) (d : De
         let n : ℕ = maps_of (paper_in s S k cs).maps t.index in
         let u : ℕ = accepted S k Unmap (slot_offset t.index (paper_in s S k cs).size) (slot_size (paper_in s S k cs).size) cs in
         t.it.flag ∙ flag_swap (eqb n 0) ∙ ap (λ (b : Bool). cond b 0 1) (sym (same_count u n))
-        ∙ sym (rw (t.it.offset, t.it.slot, place-balance cs t.index t.it.below))
+        ∙ sym (rw (t.it.offset, t.it.slot, place_balance cs t.index t.it.below))
 
     mappable : S.change cs Map (type_of k) (word_at (S.request cs w a).argument 52) (word_at (S.request cs w a).argument 56)
         ≡ cond (eqb (accepted S k Map (word_at (S.request cs w a).argument 52) (word_at (S.request cs w a).argument 56) cs)
@@ -503,8 +503,8 @@ module _ (s : List ℕ) (m : Kind → List ℕ) (S : Session) (k : Kind) (d : De
         let p : Paper = paper_in s S k cs in
         let n : ℕ = maps_of p.maps t.index in
         let open_is : S.opening ≡ 0 = opened_by_law cs (λ h. omega (arith, t.it.below, ap (λ (y : Paper). y.granted) h)) in
-        let some : 0 < slot_size p.size = some-slot cs t.index t.it.below in
-        rw (t.it.offset, t.it.slot, place-balance cs t.index t.it.below, full_count (accepted S k Unmap (slot_offset t.index p.size) (slot_size p.size) cs) n ((q.sound cs).maps.most t.index))
+        let some : 0 < slot_size p.size = some_slot cs t.index t.it.below in
+        rw (t.it.offset, t.it.slot, place_balance cs t.index t.it.below, full_count (accepted S k Unmap (slot_offset t.index p.size) (slot_size p.size) cs) n ((q.sound cs).maps.most t.index))
         (subst (λ (j : Kind). S.change cs Map (type_of k) (slot_offset t.index p.size) (slot_size p.size) ≡ map_number (papers_in s S cs j) (slot_offset t.index p.size) (slot_size p.size))
         (names k (type_of k) refl).0 (d.changes cs Map (type_of k) (slot_offset t.index p.size) (slot_size p.size))
         ∙ passed (not (eqb S.opening 0)) (no_stream (type_of k)) (is_slot p.granted p.size (slot_offset t.index p.size) (slot_size p.size))

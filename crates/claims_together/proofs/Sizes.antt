@@ -19,7 +19,7 @@ use Rattle.sheet_rules.specs.Rules.{good_sheet}
 use Rattle.sheet_rules.proofs.Facts.{Sizes}
 use Rattle.sheet_rules.proofs.Good.{geometry}
 use Rattle.grid_rules.specs.Grid.{size_at, walk_sizes}
-use Rattle.grid_rules.proofs.Sizes.{walk-stops}
+use Rattle.grid_rules.proofs.Sizes.{walk_stops}
 use Rattle.stream_history.specs.Paper.{Paper}
 use Rattle.claims.specs.Calls.{Kind, type_of, Call}
 use Rattle.claims.specs.Machine.{Session, Given}
@@ -34,7 +34,7 @@ use Rattle.claims_together.proofs.Waiting.{past, not_false, granted_by, by_call,
 pub walk_nearest : (r : Range) → Sizes r → (asked got : ℕ) → Nearest r asked got → got ≡ walk_sizes r asked
 walk_nearest r z asked got n =
     n.is
-    ∙ sym (walk-stops r z.steps some z.whole asked n.place (record {
+    ∙ sym (walk_stops r z.steps some z.whole asked n.place (record {
       within = cancel n.place z.steps (omega (arith, n.is, n.most, z.whole));
       near = λ j h. rw (← n.is) (n.near j (below j h));
       tie = λ j h e. cancel n.place j (omega (arith, n.is, n.tie j (below j h) (rw n.is e)));
@@ -65,8 +65,8 @@ good s m S d cs w a z =
 module _ (s : List ℕ) (m : Kind → List ℕ) (S : Session) (d1 : Demand1 s m S) (d2 : Demand2 s S) where
   module _ (cs : List Call) (w : ℕ) (a : List ℕ) (call : Negotiates (request_of w).call) (type : word_at a 0 ≡ type_of Kind.pictures) (z : (S.request cs w a).number ≡ 0) where
     -- what holds of every accepted TRY_FMT of this argument holds of an accepted S_FMT too, which answers what TRY_FMT answers
-    as-tried : (P : Given → Type 0) → ((t : ℕ) → (request_of t).call ≡ TryFmt → (S.request cs t a).number ≡ 0 → P (S.request cs t a)) → P (S.request cs w a)
-    as-tried P tried = ⊎_elim
+    as_tried : (P : Given → Type 0) → ((t : ℕ) → (request_of t).call ≡ TryFmt → (S.request cs t a).number ≡ 0 → P (S.request cs t a)) → P (S.request cs w a)
+    as_tried P tried = ⊎_elim
         (λ e. tried w e z)
         (λ e.
         let same : S.request cs 0xC0CC5640 a ≡ S.request cs w a = d2.same cs 0xC0CC5640 w a is_try e (λ h. omega (arith, h, z)) in
@@ -75,10 +75,10 @@ module _ (s : List ℕ) (m : Kind → List ℕ) (S : Session) (d1 : Demand1 s m 
 
     -- so both answer the nearest sizes
     pub nearest_width : Nearest (widths_of s) (word_at a 4) (word_at (S.request cs w a).argument 4)
-    nearest_width = as-tried (λ g. Nearest (widths_of s) (word_at a 4) (word_at g.argument 4)) (λ t e y. d2.widths cs t a e type y)
+    nearest_width = as_tried (λ g. Nearest (widths_of s) (word_at a 4) (word_at g.argument 4)) (λ t e y. d2.widths cs t a e type y)
 
     pub nearest_height : Nearest (heights_of s) (word_at a 8) (word_at (S.request cs w a).argument 8)
-    nearest_height = as-tried (λ g. Nearest (heights_of s) (word_at a 8) (word_at g.argument 8)) (λ t e y. d2.heights cs t a e type y)
+    nearest_height = as_tried (λ g. Nearest (heights_of s) (word_at a 8) (word_at g.argument 8)) (λ t e y. d2.heights cs t a e type y)
 
   -- what S_FMT gives, by the opening, the length and the type of its argument, and the buffers that there are
   abbrev set_number : ℕ → ℕ → ℕ → ℕ → ℕ

@@ -27,16 +27,16 @@ module _ (d : State) (kind : ℕ) (m f : List ℕ) (t : Time) where
   -- at an open one; r and m' are what the stream answers and leaves
   module _ (h : d.ready ≡ 0 → ⊥) {r : Arrived} {m' : List ℕ} where
     -- a picture
-    pub arrives-picture : kind ≡ 1 → r ≡ picture_arrives d (length m) f t → m' ≡ written_by r.arrival d.size m f
+    pub arrives_picture : kind ≡ 1 → r ≡ picture_arrives d (length m) f t → m' ≡ written_by r.arrival d.size m f
         → Arrives r.arrival (with_video d r.stream) m'
     unfolding taken_of taken_memory
-    arrives-picture k q e = rw (ne_eqb d.ready 0 h, eq-eqb kind 1 k, ← q) (refl, e)
+    arrives_picture k q e = rw (ne_eqb d.ready 0 h, eq-eqb kind 1 k, ← q) (refl, e)
 
     -- captions
-    pub arrives-captions : (kind ≡ 1 → ⊥) → kind ≡ 6 → r ≡ captions_arrive d (length m) f t → m' ≡ written_by r.arrival (io_size d.services) m f
+    pub arrives_captions : (kind ≡ 1 → ⊥) → kind ≡ 6 → r ≡ captions_arrive d (length m) f t → m' ≡ written_by r.arrival (io_size d.services) m f
         → Arrives r.arrival (with_captions d r.stream) m'
     unfolding taken_of taken_memory
-    arrives-captions n k q e = rw (ne_eqb d.ready 0 h, ne_eqb kind 1 n, eq-eqb kind 6 k, ← q) (refl, e)
+    arrives_captions n k q e = rw (ne_eqb d.ready 0 h, ne_eqb kind 1 n, eq-eqb kind 6 k, ← q) (refl, e)
 
   -- of another type
   pub arrives_other : (d.ready ≡ 0 → ⊥) → (kind ≡ 1 → ⊥) → (kind ≡ 6 → ⊥) → Arrives (Refused WrongType) d m

@@ -1,4 +1,6 @@
 // Frame arrivals, and the verdicts on the films. Requests are in the crate `device_requests`, planes in `device_planes`.
+#![tactic(auto)]
+
 ghost use Rattle.std.specs.Prelude.{◌≡◌, List, ℕ, length};
 ghost use Rattle.stream_words.specs.Words.{stream_in};
 ghost use Rattle.picture_rules.specs.Picture.{whole_picture};

@@ -24,14 +24,14 @@ module _ (c : Change) (d : State) (kind offset length n : ℕ) where
   -- at an open one; t is what the stream answers and leaves
   module _ (h : d.ready ≡ 0 → ⊥) {t : Step} where
     -- of pictures
-    pub maps-picture : kind ≡ 1 → t ≡ picture_change c d offset length → n ≡ reply_number t.reply → Maps (with_video d t.stream)
+    pub maps_picture : kind ≡ 1 → t ≡ picture_change c d offset length → n ≡ reply_number t.reply → Maps (with_video d t.stream)
     unfolding mapped_of
-    maps-picture k q e = rw (ne_eqb d.ready 0 h, eq-eqb kind 1 k, ← q, e) refl
+    maps_picture k q e = rw (ne_eqb d.ready 0 h, eq-eqb kind 1 k, ← q, e) refl
 
     -- of captions
-    pub maps-captions : (kind ≡ 1 → ⊥) → kind ≡ 6 → t ≡ caption_change c d offset length → n ≡ reply_number t.reply → Maps (with_captions d t.stream)
+    pub maps_captions : (kind ≡ 1 → ⊥) → kind ≡ 6 → t ≡ caption_change c d offset length → n ≡ reply_number t.reply → Maps (with_captions d t.stream)
     unfolding mapped_of
-    maps-captions m k q e = rw (ne_eqb d.ready 0 h, ne_eqb kind 1 m, eq-eqb kind 6 k, ← q, e) refl
+    maps_captions m k q e = rw (ne_eqb d.ready 0 h, ne_eqb kind 1 m, eq-eqb kind 6 k, ← q, e) refl
 
   -- of another type
   pub maps_other : (d.ready ≡ 0 → ⊥) → (kind ≡ 1 → ⊥) → (kind ≡ 6 → ⊥) → n ≡ errno_of WrongType → Maps d

@@ -57,30 +57,30 @@ module _ (r : Range) (n : ℕ) (some : 0 < r.step) (whole : r.greatest ≡ r.lea
     answer = rw (span, place.is)
 
     -- it is on the grid
-    pub size-on-grid : (k : ℕ) × (k ≤ n) × (nearest_size r asked ≡ size_at r k)
-    size-on-grid = (place.times, place.first.within, answer)
+    pub size_on_grid : (k : ℕ) × (k ≤ n) × (nearest_size r asked ≡ size_at r k)
+    size_on_grid = (place.times, place.first.within, answer)
 
     -- it is even if the least one and the step are
-    pub size-even : r.least % 2 ≡ 0 → r.step % 2 ≡ 0 → nearest_size r asked % 2 ≡ 0
-    size-even e f =
+    pub size_even : r.least % 2 ≡ 0 → r.step % 2 ≡ 0 → nearest_size r asked % 2 ≡ 0
+    size_even e f =
         let k = place.times in
         let p = ap (λ (x : ℕ). k * x) (halves r.step f) in
         let q : size_at r k ≡ (r.least / 2 + k * (r.step / 2)) * 2 = omega (arith, halves r.least e) in
         rw (answer, q) (mul-mod_left (r.least / 2 + k * (r.step / 2)) 2)
 
     -- no size of the grid is nearer
-    pub size-nearest : (k : ℕ) → k ≤ n → apart (nearest_size r asked) asked ≤ apart (size_at r k) asked
-    size-nearest k h = rw answer (place.first.near k h)
+    pub size_nearest : (k : ℕ) → k ≤ n → apart (nearest_size r asked) asked ≤ apart (size_at r k) asked
+    size_nearest k h = rw answer (place.first.near k h)
 
     -- it is the smaller of two that are as near
-    pub size-tie : (k : ℕ) → k ≤ n → apart (nearest_size r asked) asked ≡ apart (size_at r k) asked → nearest_size r asked ≤ size_at r k
-    size-tie k h e = rw answer (omega (arith, mul-le-mul_right r.step (place.first.tie k h (rw answer at e))))
+    pub size_tie : (k : ℕ) → k ≤ n → apart (nearest_size r asked) asked ≡ apart (size_at r k) asked → nearest_size r asked ≤ size_at r k
+    size_tie k h e = rw answer (omega (arith, mul-le-mul_right r.step (place.first.tie k h (rw answer at e))))
 
     -- the walk of the whole grid stops at the first of the nearest
-    pub walk-stops : (k : ℕ) → First (λ j. apart (size_at r j) asked) n k → walk_sizes r asked ≡ size_at r k
+    pub walk_stops : (k : ℕ) → First (λ j. apart (size_at r j) asked) n k → walk_sizes r asked ≡ size_at r k
     unfolding walk_sizes sizes_of
-    walk-stops k first = rw (span, mul-div_cancel n some) (walked (λ x. apart x asked) r.least (size_at r) n k first)
+    walk_stops k first = rw (span, mul-div_cancel n some) (walked (λ x. apart x asked) r.least (size_at r) n k first)
 
     -- so the nearest size is what it gives
-    pub size-walked : nearest_size r asked ≡ walk_sizes r asked
-    size-walked = answer ∙ sym (walk-stops place.times place.first)
+    pub size_walked : nearest_size r asked ≡ walk_sizes r asked
+    size_walked = answer ∙ sym (walk_stops place.times place.first)

@@ -44,13 +44,13 @@ module _ (s places : List ℕ) (i k : ℕ) (e : places ≡ tab (naming s i) 36) 
   one_sorted h =
       let l : length places ≡ 36 = ap length e ∙ tab_length (naming s i) 36 in
       tab_is (set places k (i + 1)) 0 (naming s (i + 1)) 36 (length-set places k (i + 1) ∙ l)
-      (λ j m. naming-at j m l (eqb k j) refl)
+      (λ j m. naming_at j m l (eqb k j) refl)
     where
-      naming-at : (j : ℕ) → j < 36 → length places ≡ 36 → (t : Bool) → eqb k j ≡ t → get_or (set places k (i + 1)) j 0 ≡ naming s (i + 1) j
-      naming-at j m l true q =
+      naming_at : (j : ℕ) → j < 36 → length places ≡ 36 → (t : Bool) → eqb k j ≡ t → get_or (set places k (i + 1)) j 0 ≡ naming s (i + 1) j
+      naming_at j m l true q =
           let r : k ≡ j = eqb-true k j q in
           rw (naming_more s i j, ← b, q, ← r) (get_or-set_same places k (i + 1) 0 (omega (arith, l)))
-      naming-at j m l false q =
+      naming_at j m l false q =
           rw (naming_more s i j, ← b, q)
           (get_or-set_other places k j (i + 1) 0 (λ r. eqb-false k j q (sym r)) ∙ rw (e, tab_get (naming s i) 36 j 0 m))
 

@@ -59,19 +59,19 @@ module _ (s o places : List ℕ) (mask : ℕ) (t : packable s (length o) ≡ tru
       record {
         fits = omega (arith, l, h, opening_long n mask);
         bits = rw b.masked (mask_fits 36 (named s n));
-        named = λ k e. place-named k (bit_below mask 36 k (rw b.masked (mask_fits 36 (named s n))) e) e;
-        there = λ k. place-there k (ltb k 36) refl p.whole;
+        named = λ k e. place_named k (bit_below mask 36 k (rw b.masked (mask_fits 36 (named s n))) e) e;
+        there = λ k. place_there k (ltb k 36) refl p.whole;
       }
     where
-      place-named : (k : ℕ) → k < 36 → bit_on mask k ≡ true → 0 < get_or places k 0
-      place-named k h e =
+      place_named : (k : ℕ) → k < 36 → bit_on mask k ≡ true → 0 < get_or places k 0
+      place_named k h e =
           let u : named s (length s / 64) k ≡ true = sym (some_for s (naming s (length s / 64) k)) ∙ sym (bit_there k h) ∙ e in
           let z : get_or places k 0 ≡ 0 → ⊥ = λ q. false≢true (sym (ap (λ (x : ℕ). not (eqb x 0)) (sym (kept k h) ∙ q)) ∙ u) in
           omega (arith, z)
 
-      place-there : (k : ℕ) (c : Bool) → ltb k 36 ≡ c → length s % 64 ≡ 0 → 64 * get_or places k 0 ≤ length s
-      place-there k true e w = omega (arith, kept k (ltb-true k 36 e), naming_most s (length s / 64) k)
-      place-there k false e w = omega (arith, past_end places k (omega (arith, ltb-false k 36 e, ap length b.placed ∙ tab_length (naming s (length s / 64)) 36)))
+      place_there : (k : ℕ) (c : Bool) → ltb k 36 ≡ c → length s % 64 ≡ 0 → 64 * get_or places k 0 ≤ length s
+      place_there k true e w = omega (arith, kept k (ltb-true k 36 e), naming_most s (length s / 64) k)
+      place_there k false e w = omega (arith, past_end places k (omega (arith, ltb-false k 36 e, ap length b.placed ∙ tab_length (naming s (length s / 64)) 36)))
 
   -- they fill the output
   pub whole_block : sets o 0 (opening_of (length s / 64) mask ++ joined (kept_line s mask places) 36) ≡ block_of (lines_of s)

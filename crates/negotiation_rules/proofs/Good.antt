@@ -15,7 +15,7 @@ use Rattle.sheet_rules.specs.Rules.{good_sheet}
 use Rattle.sheet_rules.proofs.Truth.{any_at, any_of_law}
 use Rattle.sheet_rules.proofs.Good.{contents, geometry}
 use Rattle.grid_rules.specs.Grid.{nearest_size}
-use Rattle.grid_rules.proofs.Sizes.{size_from, size_to, size-even, size-on-grid, size_kept}
+use Rattle.grid_rules.proofs.Sizes.{size_from, size_to, size_even, size_on_grid, size_kept}
 use Rattle.format_rules.specs.declared.Format.{Format}
 use Rattle.format_rules.proofs.Good.{Allowed}
 use Rattle.negotiation_rules.specs.Negotiation.{offered, offers_among, chosen_code, negotiated, opening_format}
@@ -28,30 +28,30 @@ module _ (s : List ℕ) (good : good_sheet s ≡ true) where
 
   -- a size of the sheet is within 2..8192, and even where least and step are
   module _ (asked : ℕ) where
-    pub width-within : (2 ≤ nearest_size (widths_of s) asked) × (nearest_size (widths_of s) asked ≤ 8192)
-    width-within =
+    pub width_within : (2 ≤ nearest_size (widths_of s) asked) × (nearest_size (widths_of s) asked ≤ 8192)
+    width_within =
         let w = (geometry s good).widths in
         (omega (arith, w.low, size_from (widths_of s) asked), omega (arith, w.high, size_to (widths_of s) asked w.order))
 
-    pub height-within : (2 ≤ nearest_size (heights_of s) asked) × (nearest_size (heights_of s) asked ≤ 8192)
-    height-within =
+    pub height_within : (2 ≤ nearest_size (heights_of s) asked) × (nearest_size (heights_of s) asked ≤ 8192)
+    height_within =
         let h = (geometry s good).heights in
         (omega (arith, h.low, size_from (heights_of s) asked), omega (arith, h.high, size_to (heights_of s) asked h.order))
 
     pub height_even : nearest_size (heights_of s) asked % 2 ≡ 0
     height_even =
         let h = (geometry s good).heights in
-        size-even (heights_of s) h.steps (omega (arith, h.stride)) h.whole asked h.even h.even_step
+        size_even (heights_of s) h.steps (omega (arith, h.stride)) h.whole asked h.even h.even_step
 
   -- whatever was asked for, the device can do what it answers
   pub negotiated_allowed : (f : Format) → Allowed (negotiated s f) (line_alignment s)
   unfolding negotiated
   negotiated_allowed f =
       record {
-        width_some = (width-within f.width).0;
-        width_most = (width-within f.width).1;
-        height_some = (height-within f.height).0;
-        height_most = (height-within f.height).1;
+        width_some = (width_within f.width).0;
+        width_most = (width_within f.width).1;
+        height_some = (height_within f.height).0;
+        height_most = (height_within f.height).1;
         height_even = height_even f.height;
         alignment = (geometry s good).alignment;
       }
@@ -79,8 +79,8 @@ module _ (s : List ℕ) (good : good_sheet s ≡ true) where
   negotiated_again f =
       let w = (geometry s good).widths in
       let h = (geometry s good).heights in
-      let a = size-on-grid (widths_of s) w.steps (omega (arith, w.stride)) w.whole f.width in
-      let b = size-on-grid (heights_of s) h.steps (omega (arith, h.stride)) h.whole f.height in
+      let a = size_on_grid (widths_of s) w.steps (omega (arith, w.stride)) w.whole f.width in
+      let b = size_on_grid (heights_of s) h.steps (omega (arith, h.stride)) h.whole f.height in
       let c = chosen_offered f.code in
       let k : chosen_code s (chosen_code s f.code) ≡ chosen_code s f.code = rw (← c.2) (code_kept c.0 c.1) in
       rw (

@@ -126,6 +126,6 @@ module _ (s : List ℕ) (d : State) (w : ℕ) (a : List ℕ) where
   -- of an open one; r is what the word was found to ask for
   module _ {r : Request} (h : d.ready ≡ 0 → ⊥) (e : r ≡ request_of w) where
     -- it asks for a call, which tests the argument
-    pub request-checked : {x : Answer} → x ≡ checked_answer r.call s d a → x ≡ request_answer s d w a
+    pub request_checked : {x : Answer} → x ≡ checked_answer r.call s d a → x ≡ request_answer s d w a
     unfolding request_answer checked_answer request_of
-    request-checked q = q ∙ rw (ne_eqb d.ready 0 h, e)
+    request_checked q = q ∙ rw (ne_eqb d.ready 0 h, e)

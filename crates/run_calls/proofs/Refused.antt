@@ -47,9 +47,9 @@ module _ (s : Stream) (a : List ℕ) where
   memory_honest false r h = h
 
   module _ (kind size : ℕ) where
-    pub reqbufs-honest : HonestStream s a (reqbufs_of s kind size a)
+    pub reqbufs_honest : HonestStream s a (reqbufs_of s kind size a)
     unfolding reqbufs_of request_buffers_of
-    reqbufs-honest = memory_honest (not (eqb (word_at a 8) 1)) _ (go (any_mapped s.maps) (streaming s && not (eqb (word_at a 0) 0)) _ _)
+    reqbufs_honest = memory_honest (not (eqb (word_at a 8) 1)) _ (go (any_mapped s.maps) (streaming s && not (eqb (word_at a 0) 0)) _ _)
       where
         z : Bool → Bool → ℕ → Stream → Step
         z x y n t = cond x (refuses StillMapped s) (cond y (refuses Streaming s) (answers (Granted n) t))
@@ -59,17 +59,17 @@ module _ (s : Stream) (a : List ℕ) where
         go false true n t = refused_honest _
         go false false n t = done_honest t (buffers_reply kind n)
 
-    pub querybuf-honest : HonestStream s a (querybuf_of s kind size a)
+    pub querybuf_honest : HonestStream s a (querybuf_of s kind size a)
     unfolding querybuf_of
-    querybuf-honest = go (query_of s (word_at a 0) size)
+    querybuf_honest = go (query_of s (word_at a 0) size)
       where
         go : (x : Queried) → HonestStream s a (queried_as x s kind a)
         go (queries.Buffer b) = done_honest s (buffer_reply kind b)
         go (queries.Refused why) = refused_honest (errno_of why)
 
-    pub qbuf-honest : HonestStream s a (qbuf_of s kind size a)
+    pub qbuf_honest : HonestStream s a (qbuf_of s kind size a)
     unfolding qbuf_of enqueue_of
-    qbuf-honest = memory_honest (not (eqb (word_at a 48) 1)) _ (go (leb s.queues.granted (word_at a 0)) (is_incoming s.queues (word_at a 0) || is_outgoing s.queues (word_at a 0)) _)
+    qbuf_honest = memory_honest (not (eqb (word_at a 48) 1)) _ (go (leb s.queues.granted (word_at a 0)) (is_incoming s.queues (word_at a 0) || is_outgoing s.queues (word_at a 0)) _)
       where
         t : Bool → Bool → Stream → Step
         t x y z = cond x (refuses NoSuchIndex s) (cond y (refuses NotDequeued s) (answers Done z))
@@ -79,9 +79,9 @@ module _ (s : Stream) (a : List ℕ) where
         go false true z = refused_honest _
         go false false z = done_honest z (buffer_reply kind (status_of z (word_at a 0) size))
 
-    pub dqbuf-honest : HonestStream s a (dqbuf_of s kind size a)
+    pub dqbuf_honest : HonestStream s a (dqbuf_of s kind size a)
     unfolding dqbuf_of dequeue_of
-    dqbuf-honest = memory_honest (not (eqb (word_at a 48) 1)) _ (go (eqb s.queues.granted 0) (not (streaming s)) s.queues.outgoing)
+    dqbuf_honest = memory_honest (not (eqb (word_at a 48) 1)) _ (go (eqb s.queues.granted 0) (not (streaming s)) s.queues.outgoing)
       where
         t : Bool → Bool → List Filled → Step
         t x y o = cond x (refuses NoBuffers s) (cond y (refuses NotStreaming s) (handed_over (oldest_of o) s))
@@ -92,14 +92,14 @@ module _ (s : Stream) (a : List ℕ) where
         go false false [] = refused_honest _
         go false false (f ∷ o) = done_honest _ (buffer_reply kind (returned_of s.maps f size))
 
-    pub streamon-honest : HonestStream s a (streamon_of s kind size a)
+    pub streamon_honest : HonestStream s a (streamon_of s kind size a)
     unfolding streamon_of start_of
-    streamon-honest = go (eqb s.queues.granted 0) _
+    streamon_honest = go (eqb s.queues.granted 0) _
       where
         go : (x : Bool) (z : Stream) → HonestStream s a (stepped (cond x (refuses NoBuffers s) (answers Done z)) a)
         go true z = refused_honest _
         go false z = quiet_honest z
 
-    pub streamoff-honest : HonestStream s a (streamoff_of s kind size a)
+    pub streamoff_honest : HonestStream s a (streamoff_of s kind size a)
     unfolding streamoff_of stop_of
-    streamoff-honest = quiet_honest _
+    streamoff_honest = quiet_honest _

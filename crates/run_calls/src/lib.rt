@@ -1,4 +1,6 @@
 // STREAMON and STREAMOFF of one stream, whatever it carries. That the argument names its type is tested by the caller.
+#![tactic(auto)]
+
 ghost use Rattle.std.specs.Prelude.{◌≡◌, List, ℕ};
 ghost use Rattle.stream_words.specs.Words.{stream_in};
 ghost use Rattle.buffer_calls.specs.Buffers.{stream_answer};

@@ -237,14 +237,14 @@ numbers_of kind l e =
           (exactly_is 0 l.minimum u.0, exactly_is 1 l.step u.1);
     }
   where
-    asBoolean : Bool
-    asBoolean = not (eqb kind 2) || (exactly 0 l.minimum && exactly 1 l.maximum && exactly 1 l.step)
+    as_boolean : Bool
+    as_boolean = not (eqb kind 2) || (exactly 0 l.minimum && exactly 1 l.maximum && exactly 1 l.step)
 
-    asMenu : Bool
-    asMenu = not (eqb kind 3) || (exactly 0 l.minimum && exactly 1 l.step)
+    as_menu : Bool
+    as_menu = not (eqb kind 3) || (exactly 0 l.minimum && exactly 1 l.step)
 
-    parts : eqb kind 4 ≡ false → (grid_ok l ≡ true) × (asBoolean ≡ true) × (asMenu ≡ true)
+    parts : eqb kind 4 ≡ false → (grid_ok l ≡ true) × (as_boolean ≡ true) × (as_menu ≡ true)
     parts f =
-        let t = both (grid_ok l && asBoolean) asMenu (second (eqb kind 4) (grid_ok l && asBoolean && asMenu) e f) in
-        let u = both (grid_ok l) asBoolean t.0 in
+        let t = both (grid_ok l && as_boolean) as_menu (second (eqb kind 4) (grid_ok l && as_boolean && as_menu) e f) in
+        let u = both (grid_ok l) as_boolean t.0 in
         (u.0, u.1, t.1)

@@ -8,7 +8,7 @@ use Rattle.stream_history.specs.Claims.{paper_after, world_after}
 use Rattle.stream_history.proofs.Sound.{Sound, Fits, sound_blank, sound_step}
 use Rattle.stream_history.proofs.Tied.{Tied, Answers, Follows, tied_opened, follows}
 use Rattle.stream_history.proofs.Order.{Legal}
-use Rattle.stream_history.proofs.Machine.{keeps-after, legal-tells}
+use Rattle.stream_history.proofs.Machine.{keeps_after, legal_tells}
 
 -- The stream is as the paper says, and the paper is sound.
 pub record Kept (w : World) (p : Paper) : Type 0 where
@@ -36,10 +36,10 @@ kept_next w p c k =
     }
 
 pub kept_after_law : (cs : List Call) (w : World) (p : Paper) → Kept w p → Kept (after w cs) (noted p (events w p cs))
-kept_after_law = keeps-after answer next told Kept kept_next
+kept_after_law = keeps_after answer next told Kept kept_next
 
 pub legal_events : (cs : List Call) (w : World) (p : Paper) → Kept w p → Legal p (events w p cs)
-legal_events = legal-tells answer next told Kept kept_next fits_next
+legal_events = legal_tells answer next told Kept kept_next fits_next
 
 -- from an opening on
 pub kept : (size : ℕ) (m : List ℕ) (cs : List Call) → Kept (world_after size m cs) (paper_after size m cs)

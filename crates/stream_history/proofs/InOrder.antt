@@ -142,19 +142,19 @@ returns_at : (w : World) (p : Paper) (k : ℕ) (mid : List Call) (f : Filled) �
 unfolding arrival_of_law
 returns_at w p k mid f g c n h =
     go (leaves p k (events w (step p (put k)) mid) c (legal_events mid w (step p (put k)) g)
-    (subst (Fits now-paper) (ap (told now-paper dequeue) h) (fits_next (after w mid) now-paper dequeue now-kept)) n)
+    (subst (Fits now_paper) (ap (told now_paper dequeue) h) (fits_next (after w mid) now_paper dequeue now_kept)) n)
   where
-    now-paper : Paper
-    now-paper = noted (step p (put k)) (events w (step p (put k)) mid)
+    now_paper : Paper
+    now_paper = noted (step p (put k)) (events w (step p (put k)) mid)
 
-    now-kept : Kept (after w mid) (noted (step p (put k)) (events w (step p (put k)) mid))
-    now-kept = kept_after_law mid w (step p (put k)) g
+    now_kept : Kept (after w mid) (noted (step p (put k)) (events w (step p (put k)) mid))
+    now_kept = kept_after_law mid w (step p (put k)) g
 
     go : Leaves p k (events w (step p (put k)) mid) → ComesBack w (step p (put k)) k mid f (length p.incoming)
     go l =
         let q : Paper = step p (put k) in
         let t : Cut answer next told w q mid l.at.front (whole l.at.bytes l.at.time) = cut answer next told mid w q l.at.front (whole l.at.bytes l.at.time) l.at.back l.at.is in
-        let (x, y) = returned_now (after w mid) now-paper (pair_of k (noted q l.at.front) l.at.bytes l.at.time) l.behind f now-kept l.first h in
+        let (x, y) = returned_now (after w mid) now_paper (pair_of k (noted q l.at.front) l.at.bytes l.at.time) l.behind f now_kept l.first h in
         let back : List Event → Filled = λ es. record { index = k; number = reduced (noted q es).run.accepted; used = length l.at.bytes; time = l.at.time } in
         (arrival_of_law w q mid (length p.incoming) l.at t, x ∙ ap back (sym t.tells_front), y)
 

@@ -44,10 +44,10 @@ module _ {W C A : Type 0} (a : W → C → A) (n : W → C → W) (t : Paper →
 
   -- what each call keeps, where its event is one that a stream can make
   module _ (Keeps : W → Paper → Type 0) (keeps : (w : W) (p : Paper) (c : C) → Keeps w p → Keeps (n w c) (step p (t p c (a w c)))) where
-    pub keeps-after : (cs : List C) (w : W) (p : Paper) → Keeps w p → Keeps (leaves n w cs) (noted p (tells a n t w p cs))
-    keeps-after [] w p k = k
-    keeps-after (c ∷ cs) w p k = keeps-after cs (n w c) (step p (t p c (a w c))) (keeps w p c k)
+    pub keeps_after : (cs : List C) (w : W) (p : Paper) → Keeps w p → Keeps (leaves n w cs) (noted p (tells a n t w p cs))
+    keeps_after [] w p k = k
+    keeps_after (c ∷ cs) w p k = keeps_after cs (n w c) (step p (t p c (a w c))) (keeps w p c k)
 
-    pub legal-tells : ((w : W) (p : Paper) (c : C) → Keeps w p → Fits p (t p c (a w c))) → (cs : List C) (w : W) (p : Paper) → Keeps w p → Legal p (tells a n t w p cs)
-    legal-tells fits [] w p k = tt
-    legal-tells fits (c ∷ cs) w p k = (fits w p c k, legal-tells fits cs (n w c) (step p (t p c (a w c))) (keeps w p c k))
+    pub legal_tells : ((w : W) (p : Paper) (c : C) → Keeps w p → Fits p (t p c (a w c))) → (cs : List C) (w : W) (p : Paper) → Keeps w p → Legal p (tells a n t w p cs)
+    legal_tells fits [] w p k = tt
+    legal_tells fits (c ∷ cs) w p k = (fits w p c k, legal_tells fits cs (n w c) (step p (t p c (a w c))) (keeps w p c k))

@@ -2,7 +2,6 @@
 use borrow.Author.Tests.{eq-eqb, ne_eqb}
 use Rattle.device_state.specs.Setup.{setup_in}
 use Rattle.device_film.specs.Film.{device_verdict}
-use borrow.Author.Rules.{rules}
 use Rattle.device_film.proofs.verdict_of.Goals as goal
 
 pub returns-then-setup-eq0 : goal.returns-then-setup-eq0

@@ -4,7 +4,7 @@ use Prim.Native.Nat.{ℕ}
 use Rattle.stream_mmap.specs.Mapping.{change_of}
 use Rattle.device_state.specs.Setup.{setup_in}
 use Rattle.device_state.specs.State.{state_in}
-use Rattle.device_maps.proofs.Cases.{maps_closed, maps-picture, maps-captions, maps_other}
+use Rattle.device_maps.proofs.Cases.{maps_closed, maps_picture, maps_captions, maps_other}
 use Rattle.device_maps.proofs.change.Goals as goal
 
 pub returns-then-setup-eq0 : goal.returns-then-setup-eq0
@@ -19,14 +19,14 @@ unfolding setup_in
 returns-then-kind-eq-PICTURES c v =
     let a = c.args in
     let d = state_in a.setup.now v a.services.now a.video.now a.captions.now in
-    maps-picture a.c d a.kind a.offset a.length _ c.if-setup-eq0.false c.if-kind-eq-PICTURES.true c.change.ensures c.reply_number.ensures
+    maps_picture a.c d a.kind a.offset a.length _ c.if-setup-eq0.false c.if-kind-eq-PICTURES.true c.change.ensures c.reply_number.ensures
 
 pub returns-then-kind-eq-CAPTIONS : goal.returns-then-kind-eq-CAPTIONS
 unfolding setup_in
 returns-then-kind-eq-CAPTIONS c v =
     let a = c.args in
     let d = state_in a.setup.now v a.services.now a.video.now a.captions.now in
-    maps-captions a.c d a.kind a.offset a.length _ c.if-setup-eq0.false c.if-kind-eq-PICTURES.false c.if-kind-eq-CAPTIONS.true
+    maps_captions a.c d a.kind a.offset a.length _ c.if-setup-eq0.false c.if-kind-eq-PICTURES.false c.if-kind-eq-CAPTIONS.true
     (c.change-then-kind-eq-CAPTIONS.ensures ∙ ap (λ (n : ℕ). change_of a.c d.captions n a.offset a.length) c.io_size-size.ensures) c.reply_number-then-kind-eq-CAPTIONS.ensures
 
 pub returns : goal.returns

@@ -1,7 +1,7 @@
 -- A closed device; else the call as it promises. Assumes nothing.
 use Rattle.device_state.specs.Setup.{setup_in}
 use Rattle.device_state.specs.State.{state_in}
-use Rattle.request_topics.proofs.Cases.{request_closed, request-checked}
+use Rattle.request_topics.proofs.Cases.{request_closed, request_checked}
 use borrow.Author.Rules.{rules}
 use Rattle.device_requests.proofs.dispatch.request.Statement.{statement}
 use Rattle.device_requests.proofs.dispatch.request.Tie as tie
@@ -31,7 +31,7 @@ returns-2 : tie.Need-returns-2
 unfolding setup_in
 returns-2 c =
     let a = c.before.before.before.before.before.before.before.before.before.before.before.before.before.before.args in
-    request-checked _ (state_in a.setup.now a.values.now a.services.now a.video.now a.captions.now) _ _ c.before.before.before.before.before.before.before.before.before.before.if1.false c.before.before.before.before.before.before.before.before.before.lookup.ensures.0 c.before.before.called.ensures
+    request_checked _ (state_in a.setup.now a.values.now a.services.now a.video.now a.captions.now) _ _ c.before.before.before.before.before.before.before.before.before.before.if1.false c.before.before.before.before.before.before.before.before.before.lookup.ensures.0 c.before.before.called.ensures
 
 pub request_spec : {M : Type 1} → statement M
 request_spec =
