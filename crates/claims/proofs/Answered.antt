@@ -7,7 +7,7 @@ use native.Mathlib.Omega.{arith}
 use borrow.Author.Tests.{leb-false, eqb-true, eqb-false, eq-eqb, ne_eqb}
 use lib.Dec.{eqb, leb, ltb}
 use lib.Signed.{lt_z}
-use mathlib.Core.List.{List, [], ◌∷◌, ◌++◌, append-nil, append_assoc}
+use mathlib.Core.List.{List}
 use lib.ListN.{length, get_or, set, length-take, length-drop}
 use lib.Seq.{sets}
 use Rattle.wire_read.specs.Words.{word_at}
@@ -56,7 +56,7 @@ use Rattle.buffer_replies.proofs.Lengths.{buffer_length}
 use Rattle.control_replies.proofs.Lengths.{value_length}
 use Rattle.crop_replies.proofs.Lengths.{crop_length, crop_capability_length}
 use Rattle.stream_arrival.specs.declared.Arrival.TheVariants as arrivals
-use Rattle.device_state.specs.State.{State, opening_state, with_video, with_captions, no_services}
+use Rattle.device_state.specs.State.{State, opening_state, with_video, with_captions}
 use Rattle.device_state.specs.Answers.{Answer, refused, by_type}
 use Rattle.format_calls.specs.Formats.{querycap_of, enum_fmt_of, g_fmt_of}
 use Rattle.negotiation_calls.specs.Negotiations.{told_format, s_fmt_of, try_fmt_of}
@@ -68,10 +68,10 @@ use Rattle.queue_calls.specs.Queues.{enqueue_reply, qbuf_of}
 use Rattle.dequeue_calls.specs.Dequeues.{dqbuf_of}
 use Rattle.run_calls.specs.Runs.{streamon_of, streamoff_of}
 use Rattle.request_topics.specs.Request.{by_video, by_captions, by_services, stream_call, call_answer}
-use Rattle.device_opening.specs.Opening.{Opened, longest_memory, closed_by, opened_of}
+use Rattle.device_opening.specs.Opening.{Opened, longest_memory, closed_by}
 use Rattle.stream_maps.specs.declared.Change.{Change}
 use Rattle.device_maps.specs.Mapping.{mapped_of}
-use Rattle.device_film.specs.Film.{Taken, taken as takes, picture_arrives, captions_arrive, taken_of, taken_memory, device_verdict}
+use Rattle.device_film.specs.Film.{taken as takes, picture_arrives, captions_arrive, taken_of, taken_memory, device_verdict}
 use Rattle.device_planes.specs.Planes.{device_place}
 use Rattle.stream_history.specs.Paper.{Paper, Event, step}
 use Rattle.stream_history.specs.Paper.Event.{put, handed}
@@ -79,22 +79,22 @@ use Rattle.stream_history.proofs.Tied.{Tied}
 use Rattle.claims.specs.Calls.{Kind, type_of, Call, arrival_time}
 use Rattle.claims.specs.Calls.Call.{request, arrival, change}
 use Rattle.claims.specs.Calls.Reply.{answered}
-use Rattle.claims.specs.Machine.{more, reply_in}
-use Rattle.claims.specs.Words.{request_told, told_by, paper_in, papers_in}
+use Rattle.claims.specs.Machine.{reply_in}
+use Rattle.claims.specs.Words.{request_told, told_by, papers_in}
 use Rattle.claims.specs.Device.{stream_of}
-use Rattle.claims.specs.Table.{named, kind_of, paper_at}
-use Rattle.claims.specs.Desk.{Desk, opening_desk, value_on, chosen, choice, desk_from, desk_in}
+use Rattle.claims.specs.Table.{named, kind_of}
+use Rattle.claims.specs.Desk.{Desk, opening_desk, value_on, chosen, choice, desk_in}
 use Rattle.claims.specs.Answers.{queues_on, status_on, first_on, answer_on, plane_on}
 use Rattle.claims.specs.Demands.{Answers}
 use Rattle.claims.proofs.Sessions.{every, desk_more}
-use Rattle.claims.proofs.Boxes.{Box, opened, asks, reply, next, paper_after, box_after, ours}
-use Rattle.claims.proofs.Steps.{view, box_with, by_kind, Safe, Foretold, Does, whole_reply, does_call, kind_view}
+use Rattle.claims.proofs.Boxes.{Box, opened, asks, next, paper_after, box_after, ours}
+use Rattle.claims.proofs.Steps.{view, box_with, Safe, Foretold, Does, whole_reply, does_call, kind_view}
 use Rattle.claims.proofs.Checks.{size_of}
 use Rattle.claims.proofs.Shut.{opened_by, opening_by, box_of}
 use Rattle.claims.proofs.Mapping.{by_tests}
 use Rattle.claims.proofs.Honest.{honest_request}
 use Rattle.claims.proofs.Formats.{Reached, reached}
-use Rattle.claims.proofs.Lists.{Stands, Since, since, same_paper, one_more_law}
+use Rattle.claims.proofs.Lists.{Stands, Since, since, one_more_law}
 use Rattle.claims.proofs.Told.{kept_present, kept_place, kept_queried, stream_accepted, stream_argument, reqbufs_answers, same_papers, short, closed_ready, never}
 use Rattle.claims.proofs.Tried.{kept_negotiated, kept_told}
 use Rattle.claims.proofs.Queued.{querybuf_answers}

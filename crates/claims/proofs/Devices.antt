@@ -1,13 +1,10 @@
 -- Our device, as one that keeps a state and is lent its memory, is the machine of which all was proved.
 use mathlib.Core.Path.{◌≡◌, refl, sym, ap, ◌∙◌, subst, fun_ext}
-use mathlib.Core.Bool.{Bool, true, false, cond}
 use Prim.Native.Nat.{ℕ}
-use lib.Dec.{eqb}
 use mathlib.Core.List.{List, [], ◌∷◌}
 use lib.ListN.{length}
 use Rattle.device_opening.specs.Opening.{Whole, opened_of}
-use Rattle.device_film.specs.Film.{taken_of, taken_memory}
-use Rattle.claims.specs.Calls.{Kind, Call, arrival_time}
+use Rattle.claims.specs.Calls.{Kind, Call}
 use Rattle.claims.specs.Calls.Call.{request, arrival, change}
 use Rattle.claims.specs.Machine.{Session, Machine}
 use Rattle.claims.specs.Device.{Kept, takes, goes_on, kept_after, machine_of, our_device}

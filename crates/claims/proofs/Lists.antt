@@ -9,7 +9,7 @@ use Rattle.ioctl_table.specs.declared.refusals.Refusal.TheVariants.{BadSheet, Me
 use Rattle.sheet_copy.specs.Copy.{kept_of}
 use Rattle.sheet_rules.specs.Rules.{good_sheet}
 use Rattle.device_state.specs.State.{closed_state}
-use Rattle.device_opening.specs.Opening.{Opened, longest_memory, closed_by, opened_of}
+use Rattle.device_opening.specs.Opening.{Opened, longest_memory, closed_by}
 use Rattle.device_film.specs.Film.{taken_memory, device_verdict}
 use Rattle.device_planes.specs.Planes.{device_place}
 use Rattle.stream_history.specs.Paper.{Paper, Event, blank, step, noted}

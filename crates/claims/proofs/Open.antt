@@ -3,7 +3,7 @@ use mathlib.Core.Path.{◌≡◌, refl, sym, ap, ◌∙◌, subst}
 use mathlib.Core.Bool.{Bool, true, false, cond, ◌&&◌}
 use Prim.Native.Nat.{ℕ, ◌%◌, ◌^◌}
 use native.Mathlib.Omega.{arith}
-use borrow.Author.Tests.{eqb-true, le-leb}
+use borrow.Author.Tests.{eqb-true}
 use lib.Dec.{leb, eqb}
 use mathlib.Core.List.{List, [], ◌∷◌}
 use lib.ListN.{length}
@@ -42,7 +42,7 @@ use Rattle.claims.proofs.Checks.{size_of}
 use Rattle.claims.proofs.Arrivals.{whole_short}
 use Rattle.claims.proofs.Mapping.{turned, with_kind, mapped_chosen, open_mapped, other_mapped, by_number}
 use Rattle.claims.specs.Table.{kind_of, whole_on}
-use Rattle.claims.specs.Device.{lent_to, kept_on, stream_of}
+use Rattle.claims.specs.Device.{lent_to, stream_of}
 use Rattle.claims.specs.Calls.{Kind, type_of, Call, arrival_time}
 use Rattle.claims.proofs.Boxes.{Box, asks, arrives, reply, seen, next}
 use Rattle.claims.specs.Words.{arrival_told, told}

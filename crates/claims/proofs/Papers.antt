@@ -1,12 +1,11 @@
 -- The papers of our device: after every list of calls they are sound, and every call more tells what a stream can make.
-use mathlib.Core.Path.{◌≡◌, refl, sym, ap, ◌∙◌, subst}
-use mathlib.Core.Bool.{Bool, false}
+use mathlib.Core.Path.{◌≡◌, sym, ◌∙◌, subst}
+use mathlib.Core.Bool.{false}
 use Prim.Native.Nat.{ℕ, ◌*◌, ◌≤◌}
 use native.Mathlib.Omega.{arith}
 use borrow.Author.Tests.{eqb-false}
 use lib.Dec.{eqb}
 use mathlib.Core.List.{List}
-use lib.ListN.{length}
 use Rattle.stream_slots.specs.Slot.{slot_size}
 use Rattle.device_opening.specs.Opening.{longest_memory}
 use Rattle.stream_history.specs.Paper.{Paper, blank}
@@ -14,7 +13,7 @@ use Rattle.stream_history.proofs.Sound.{Sound, Fits, sound_blank}
 use Rattle.claims.specs.Calls.{Kind, Call, Reply}
 use Rattle.claims.specs.Machine.{Session}
 use Rattle.claims.specs.Words.{told, seen_in, opening_size, paper_in}
-use Rattle.claims.proofs.Boxes.{Box, seen, paper_after, box_after, ours}
+use Rattle.claims.proofs.Boxes.{seen, paper_after, box_after, ours}
 use Rattle.claims.proofs.Open.{fits_next}
 use Rattle.claims.proofs.Shut.{closed_shut, shut_next}
 use Rattle.claims.proofs.Lists.{Since, since, same_paper, same_seen}

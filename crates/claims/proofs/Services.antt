@@ -5,7 +5,6 @@ use mathlib.Core.Bool.{Bool, true, false, cond, not, true≢false}
 use denote.Enum.Declared.{tag_of}
 use Rattle.ioctl_table.specs.contracts.table.Call.{the_type}
 use Prim.Native.Nat.{ℕ}
-use native.Mathlib.Omega.{arith}
 use borrow.Author.Tests.{eqb-true, eqb-false}
 use lib.Dec.{eqb, leb, ltb}
 use mathlib.Core.List.{List, [], ◌∷◌}
@@ -15,7 +14,7 @@ use Rattle.wire_read.specs.Words.{word_at}
 use Rattle.ioctl_table.specs.Refusal.{errno_of}
 use Rattle.ioctl_table.specs.Table.{argument_size, request_of}
 use Rattle.ioctl_table.specs.declared.refusals.Refusal.{Refusal}
-use Rattle.ioctl_table.specs.declared.refusals.Refusal.TheVariants.{Closed, WrongType, NoSuchIndex, NoSuchControl, BuffersExist, BadSheet, MemoryTooLong}
+use Rattle.ioctl_table.specs.declared.refusals.Refusal.TheVariants.{Closed, WrongType, NoSuchIndex, NoSuchControl, BadSheet, MemoryTooLong}
 use Rattle.ioctl_table.specs.declared.table.Call.{Call as Asked}
 use Rattle.ioctl_table.specs.declared.table.Call.TheVariants.{Unknown, Querycap, EnumFmt, GFmt, SFmt, TryFmt, Reqbufs, Querybuf, Qbuf, Dqbuf, Streamon, Streamoff, GCtrl, SCtrl, Queryctrl, Cropcap, GCrop, SCrop, GSlicedVbiCap}
 use Rattle.sheet_contents.specs.Contents.{format_count}
@@ -28,31 +27,30 @@ use Rattle.control_value_rules.specs.declared.Setting.{Setting}
 use Rattle.control_value_rules.specs.declared.Setting.TheVariants as settings
 use Rattle.service_replies.specs.Services.{lines_at, asked_services, services_reply, services_capability_reply}
 use Rattle.service_replies.proofs.Reply.{services_length, told_lines, asked_length, asked_fit}
-use Rattle.service_calls.specs.Services.{g_services_of, s_services_of, try_services_of, services_capability_of}
+use Rattle.service_calls.specs.Services.{g_services_of, try_services_of, services_capability_of}
 use Rattle.stream_arrival.specs.declared.Arrival.TheVariants as arrivals
 use Rattle.stream_words.specs.declared.Time.{Time}
 use Rattle.device_state.specs.State.{State, closed_state, opening_state, no_services, with_video, with_captions}
 use Rattle.device_state.specs.Answers.{Answer, refused, by_type}
 use Rattle.format_calls.specs.Formats.{querycap_of, enum_fmt_of, g_fmt_of}
-use Rattle.negotiation_calls.specs.Negotiations.{s_fmt_of, try_fmt_of}
+use Rattle.negotiation_calls.specs.Negotiations.{try_fmt_of}
 use Rattle.crop_calls.specs.Crops.{cropcap_of, g_crop_of, s_crop_of}
 use Rattle.control_calls.specs.Controls.{g_ctrl_of, s_ctrl_of, read_as, set_as}
 use Rattle.control_query_calls.specs.Query.{queryctrl_of}
-use Rattle.request_topics.specs.Request.{by_services, call_answer, request_answer}
+use Rattle.request_topics.specs.Request.{by_services, call_answer}
 use Rattle.sheet_copy.specs.Copy.{kept_of}
 use Rattle.negotiation_rules.specs.Negotiation.{negotiated, asked_format}
 use Rattle.stream_history.proofs.Machine.{leaves_append}
 use Rattle.claims.specs.Words.{told}
-use Rattle.device_opening.specs.Opening.{Opened, longest_memory, closed_by, opened_of}
-use Rattle.device_film.specs.Film.{Taken, taken as takes, picture_arrives, captions_arrive, taken_of}
-use Rattle.claims.specs.Calls.{Kind, Call, Reply, arrival_time}
+use Rattle.device_opening.specs.Opening.{longest_memory, closed_by, opened_of}
+use Rattle.device_film.specs.Film.{taken as takes, picture_arrives, captions_arrive, taken_of}
+use Rattle.claims.specs.Calls.{Kind, Call, arrival_time}
 use Rattle.claims.specs.Calls.Call.{request, arrival, change}
-use Rattle.claims.specs.Calls.Reply.{answered, taken}
-use Rattle.claims.specs.Machine.{more, reply_in}
+use Rattle.claims.specs.Machine.{reply_in}
 use Rattle.claims.specs.Table.{named}
-use Rattle.claims.specs.Desk.{Desk, chosen, choice, opening_desk, desk_in}
+use Rattle.claims.specs.Desk.{Desk, chosen, choice, desk_in}
 use Rattle.claims.proofs.Sessions.{every, desk_more}
-use Rattle.claims.proofs.Boxes.{Box, opened, asks, reply, seen, next, box_after, ours}
+use Rattle.claims.proofs.Boxes.{Box, opened, asks, seen, next, box_after, ours}
 use Rattle.claims.proofs.Steps.{whole_reply}
 use Rattle.claims.proofs.Formats.{Reached, reached, of_stream, set_pictures_law, set_captions_law}
 use Rattle.claims.proofs.Mapping.{mapped_chosen}

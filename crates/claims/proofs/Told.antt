@@ -22,7 +22,6 @@ use Rattle.control_place_rules.specs.Find.{present, place_of, place_above, queri
 use Rattle.stream_words.specs.declared.Time.{Time}
 use Rattle.wire_read.specs.Lists.{any}
 use Rattle.stream_words.specs.Moves.{is_incoming, is_outgoing, of_buffer}
-use Rattle.stream_slots.specs.Slot.{is_slot, buffer_at}
 use Rattle.stream_maps.specs.declared.Change.{Change}
 use Rattle.stream_maps.specs.Maps.{any_mapped}
 use Rattle.stream_run.specs.Stream.{streaming, stopped}

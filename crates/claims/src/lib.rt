@@ -1,5 +1,7 @@
 // What holds of our device, whatever it is asked, told from calls and answers alone. Nothing runs here: each function is named after a
 // claim, and its contract is the claim, of the machine that the definitions make which the contracts of `device_requests`, `device_opening`, `device_film` and `device_planes` cite.
+#![tactic(auto)]
+
 ghost use Rattle.std.specs.Prelude.{◌≡◌, true, List, ℕ};
 ghost use Rattle.claims.specs.Calls.{Kind};
 ghost use Rattle.claims.specs.Demands.{Demand1, Demand2, Demand3, Counts, Answers};

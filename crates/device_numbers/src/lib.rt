@@ -1,4 +1,6 @@
 // What becomes of a frame, and the verdict on the film, in numbers: so a caller in C is told, and so are the programs.
+#![tactic(auto)]
+
 ghost use Rattle.std.specs.Prelude.{◌≡◌, List, ℕ, length};
 ghost use Rattle.stream_words.specs.Words.{time_of};
 ghost use Rattle.device_state.specs.State.{state_in};

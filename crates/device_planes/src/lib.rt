@@ -1,4 +1,6 @@
 // The planes of a picture, by the format in force.
+#![tactic(auto)]
+
 ghost use Rattle.std.specs.Prelude.{◌≡◌, length};
 ghost use Rattle.device_state.specs.Setup.{setup_in};
 ghost use Rattle.device_state.specs.State.{State, with_setup};

@@ -1,4 +1,6 @@
 // What each call answers (specs/Request.antt), and what it is about.
+#![tactic(auto)]
+
 ghost use Rattle.std.specs.Prelude.{◌≡◌};
 ghost use Rattle.request_topics.specs.Request.{topic_of};
 

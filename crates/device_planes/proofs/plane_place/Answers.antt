@@ -2,7 +2,6 @@
 use Rattle.device_state.specs.Setup.{setup_in}
 use Rattle.device_state.specs.State.{with_setup}
 use Rattle.device_planes.proofs.Cases.{plane_closed, plane_open}
-use borrow.Author.Rules.{rules}
 use Rattle.device_planes.proofs.plane_place.Goals as goal
 
 pub returns-then-setup-eq0 : goal.returns-then-setup-eq0
