@@ -5,7 +5,7 @@ use mathlib.Core.Logic.{◌≢◌}
 use Prim.Native.Nat.{ℕ}
 use borrow.Author.Tests.{eqb-true, eqb-false}
 use lib.Dec.{eqb}
-use mathlib.Core.List.{List, [], ◌∷◌, ◌++◌, append-nil, append_assoc}
+use mathlib.Core.List.{List, []}
 use lib.ListN.{length}
 use Rattle.ioctl_table.specs.Table.{request_of}
 use Rattle.stream_words.specs.Stream.{Run}
@@ -23,7 +23,7 @@ use Rattle.claims.specs.Calls.Reply.{answered, taken, numbered}
 use Rattle.claims.specs.Machine.{Given, Session, more, reply_in}
 use Rattle.claims.specs.Words.{told, seen_in, opening_size, paper_in, papers_in, handed_in}
 use Rattle.claims.specs.Table.{first_number, request_tests, arrival_tests, change_tests, refused_by, kind_of, arrived_on}
-use Rattle.claims.specs.Desk.{Desk, opening_desk, choice, desk_from, desk_in}
+use Rattle.claims.specs.Desk.{Desk, choice, desk_in}
 use Rattle.claims.specs.Answers.{answer_on, plane_on}
 use Rattle.claims.specs.Demands.{Demand1, Demand3, Counts, Answers}
 use Rattle.claims_together.specs.NoRoom.{NoRoom}

@@ -4,7 +4,7 @@ use mathlib.Core.Path.{◌≡◌, refl, sym, ap, ap₂, ◌∙◌, subst}
 use mathlib.Core.Logic.{◌⊎◌, inl, inr, ⊎_elim}
 use mathlib.Core.Bool.{Bool, true, false, cond}
 use borrow.Author.Tests.{eqb-true}
-use mathlib.Core.List.{List, [], ◌∷◌}
+use mathlib.Core.List.{List, []}
 use lib.Dec.{eqb}
 use lib.ListN.{length}
 use Rattle.wire_read.specs.Words.{word_at}
@@ -18,16 +18,16 @@ use Rattle.sheet_rules.specs.Rules.{inside_ok, bound_ok, bounds_ok, default_ok, 
 use Rattle.sheet_rules.proofs.Truth.{both}
 use Rattle.crop_rules.specs.Crop.{clamped, opening_crop, top_apart}
 use Rattle.crop_rules.proofs.Laws.{inside_both, inside_fits, last_even_top, bounds_good, bounds_inside, default_inside, opening_taken}
-use Rattle.crop_replies.specs.Replies.{crop_reply, crop_capability_reply}
+use Rattle.crop_replies.specs.Replies.{crop_capability_reply}
 use Rattle.crop_replies.proofs.Back.{Held, crop_back, bounds_back, default_back}
 use Rattle.crop_calls.specs.Crops.{asked_crop}
-use Rattle.claims.specs.Calls.{Kind, type_of, Call, Reply}
+use Rattle.claims.specs.Calls.{Kind, Call, Reply}
 use Rattle.claims.specs.Calls.Call.{request, arrival, change}
 use Rattle.claims.specs.Calls.Reply.{answered, taken, numbered}
 use Rattle.claims.specs.Machine.{Session, more, reply_in}
 use Rattle.claims.specs.Words.{papers_in}
 use Rattle.claims.specs.Table.{named}
-use Rattle.claims.specs.Desk.{Desk, opening_desk, chosen, choice, desk_in}
+use Rattle.claims.specs.Desk.{Desk, chosen, choice, desk_in}
 use Rattle.claims.specs.Answers.{answer_on}
 use Rattle.claims.specs.Demands.{Demand1, Answers}
 use Rattle.claims.proofs.Sessions.{every, desk_more}

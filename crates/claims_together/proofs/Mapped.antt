@@ -1,11 +1,11 @@
 -- Maps and unmaps that were accepted, place by place, against the paper's counts.
 use mathlib.Core.Path.{◌≡◌, refl, sym, ap, ap₂, ◌∙◌, subst}
-use mathlib.Core.Logic.{◌⊎◌, inl, inr, ⊎_elim}
+use mathlib.Core.Logic.{⊎_elim}
 use mathlib.Core.Bool.{Bool, true, false, cond, not, ◌&&◌, true≢false, false≢true}
-use Prim.Native.Nat.{ℕ, ◌+◌, ◌*◌, ◌%◌, ◌^◌, ◌≤◌, ◌<◌}
+use Prim.Native.Nat.{ℕ, ◌+◌, ◌*◌, ◌%◌, ◌≤◌, ◌<◌}
 use native.Mathlib.Omega.{arith}
 use native.Mathlib.Nat.{add-zero}
-use borrow.Author.Tests.{eqb-true, eqb-false, eq-eqb, ne_eqb, leb-true, leb-false, le-leb, lt-leb}
+use borrow.Author.Tests.{eqb-true, eq-eqb, leb-true, leb-false, le-leb, lt-leb}
 use lib.Dec.{eqb, leb}
 use mathlib.Core.List.{List, [], ◌∷◌, ◌++◌, append-nil, append_assoc}
 use lib.ListN.{length}
@@ -22,13 +22,13 @@ use Rattle.stream_words.specs.declared.Standing.TheVariants.{Dequeued, Incoming,
 use Rattle.stream_words.specs.Moves.{standing_of}
 use Rattle.stream_maps.specs.declared.Change.{Change}
 use Rattle.stream_maps.specs.declared.Change.TheVariants.{Map, Unmap}
-use Rattle.stream_maps.specs.Maps.{most_maps, maps_of, is_mapped, any_mapped, blocked, moved}
+use Rattle.stream_maps.specs.Maps.{maps_of, is_mapped, any_mapped, moved}
 use Rattle.stream_maps.proofs.Counts.{none_mapped, some_mapped, mapped_one}
 use Rattle.stream_status.specs.declared.Status.{Status}
-use Rattle.stream_status.specs.Buffer.{flags_for, flags_of, frame_for, described_of, returned_of}
+use Rattle.stream_status.specs.Buffer.{flags_of, described_of, returned_of}
 use Rattle.buffer_replies.specs.Replies.{buffer_reply}
 use Rattle.buffer_replies.proofs.Lengths.{buffer_flags, buffer_offset, buffer_slot}
-use Rattle.stream_history.specs.Paper.{Pair, Paper, Event, blank, refused_arrival, index_of, same_sort, step}
+use Rattle.stream_history.specs.Paper.{Pair, Paper, Event, blank, refused_arrival, same_sort, step}
 use Rattle.stream_history.specs.Paper.Event.{put, whole, damaged, handed, begun, ended, sized, changed, idle}
 use Rattle.stream_history.proofs.Lists.{All}
 use Rattle.device_opening.specs.Opening.{longest_memory}
@@ -39,7 +39,7 @@ use Rattle.claims.specs.Calls.Call.{request, arrival, change}
 use Rattle.claims.specs.Machine.{Session, more}
 use Rattle.claims.specs.Words.{type_at, request_told, told, seen_in, opening_size, paper_in, papers_in}
 use Rattle.claims.specs.Desk.{desk_in}
-use Rattle.claims.specs.Table.{first_number, kind_of, no_stream, paper_at, whole_on, change_tests}
+use Rattle.claims.specs.Table.{kind_of, no_stream, paper_at, whole_on}
 use Rattle.claims.specs.Answers.{queues_on, status_on, first_on, answer_on}
 use Rattle.claims.specs.Demands.{Demand1, Answers}
 use Rattle.claims.proofs.Sessions.{paper_more, every}

@@ -1,6 +1,8 @@
 // What the demands of `claims` say together: what a client may read from DQBUF, what a walk of all sizes gives, that a crop keeps the fields
 // apart, that what is mapped is not granted anew, that our device meets all of them, and that they leave no room. As there, nothing runs: each function is named after a claim, and
 // its contract is the claim.
+#![tactic(auto)]
+
 ghost use Rattle.std.specs.Prelude.{◌≡◌, true, List, ℕ};
 ghost use Rattle.claims.specs.Calls.{Kind};
 ghost use Rattle.claims.specs.Device.{machine_of, our_device};

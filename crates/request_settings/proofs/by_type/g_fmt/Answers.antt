@@ -1,0 +1,14 @@
+-- By the type, what the handler of each promises. Assumes nothing.
+use mathlib.Core.Path.{◌∙◌, sym, ap}
+use Rattle.device_state.proofs.Typed.{by_pictures, by_captions_law, by_neither}
+use Rattle.device_state.specs.Setup.{setup_in}
+use Rattle.device_state.specs.State.{with_settings}
+use Rattle.request_topics.specs.Request.{by_services}
+use borrow.Author.Rules.{rules}
+use Rattle.request_settings.proofs.by_type.g_fmt.Goals as goal
+
+pub returns-then-kind-eq-PICTURES : goal.returns-then-kind-eq-PICTURES
+returns-then-kind-eq-PICTURES c s x =
+    let a = c.args in
+    let d = with_settings x (setup_in a.setup.now) a.services.now in
+    (c.g_fmt.ensures d) ∙ sym (by_pictures 0 d a.argument.now _ _ c.word_at-kind.ensures c.if-kind-eq-PICTURES.true)
