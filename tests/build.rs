@@ -9,7 +9,7 @@ fn main() {
         return;
     }
     let manifest = PathBuf::from(env::var_os("CARGO_MANIFEST_DIR").expect("cargo names the manifest directory"));
-    let place = manifest.join("../target/staticlib");
+    let place = manifest.join("../crates/tollgutter/out");
     println!("cargo:rustc-link-search=native={}", place.display());
     println!("cargo:rustc-link-lib=static=tollgutter");
     println!("cargo:rerun-if-changed={}", place.join("libtollgutter.a").display());

@@ -1,7 +1,7 @@
 //! The checks of a document against the index.
 use crate::document::{blocks, links, quotes, Block, Is};
 use crate::groups::{mentions, Mention, Place};
-use crate::index::{file_name, is_name, list, Index};
+use crate::index::{file_name, is_name, list, Index, BUILT};
 use std::collections::BTreeMap;
 use std::fs;
 use std::path::{Path, PathBuf};
@@ -134,7 +134,10 @@ impl Checker<'_> {
     fn path_exists(&self, document: &str, word: &str) -> Option<bool> {
         let beside = self.beside(document);
         let first = word.split('/').next()?;
-        if !TOPS.contains(&first) && (first == "target" || first.starts_with('.') || !beside.join(first).is_dir()) {
+        if word.split('/').any(|part| BUILT.contains(&part)) {
+            return None;
+        }
+        if !TOPS.contains(&first) && (first.starts_with('.') || !beside.join(first).is_dir()) {
             return None;
         }
         let pattern = ["NAME", "LABEL", "FUNCTION"].iter().fold(word.to_string(), |p, holder| p.replace(holder, "*"));

@@ -21,6 +21,9 @@ const ALLOWED: [&str; 11] = [
 /// The folders whose words are known, besides `crates`.
 const FOLDERS: [&str; 5] = [".ci", "bench", "include", "tests", "tools"];
 
+/// The folders in which cargo and rt leave what they make.
+pub const BUILT: [&str; 2] = ["out", "target"];
+
 /// This program is not searched: its list of words and its tests would make every name in them known.
 const OWN: &str = "tools/check";
 
@@ -193,7 +196,9 @@ impl Crate {
 impl Index {
     pub fn read(root: &Path) -> io::Result<Index> {
         let table = fs::read_to_string(root.join("crates.txt"))?;
-        let names = table.lines().filter(|l| !l.starts_with('#')).filter_map(|l| Some(l.split_once(':')?.0));
+        // `NAME: ..`, or `NAME staticlib: ..`
+        let heads = table.lines().filter(|l| !l.starts_with('#')).filter_map(|l| Some(l.split_once(':')?.0));
+        let names = heads.filter_map(|head| head.split_whitespace().next());
         let mut it = Index {
             root: root.into(),
             crates: BTreeMap::new(),
@@ -215,7 +220,7 @@ impl Index {
             self.words.insert(stem(&path));
             self.file_names.insert(file_name(&path));
             if path.is_dir() {
-                if !path.ends_with("target") && path != self.root.join(OWN) {
+                if !BUILT.iter().any(|name| path.ends_with(name)) && path != self.root.join(OWN) {
                     self.read_words(&path)?;
                 }
             } else if !["edit", "lock", "md"].iter().any(|e| path.extension().is_some_and(|x| x == *e)) {
