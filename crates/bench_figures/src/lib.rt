@@ -1,4 +1,6 @@
 // The figures of the bench, as a theorem: the contract of a function that does nothing.
+#![tactic(auto)]
+
 ghost use Rattle.std.specs.Prelude.{◌≡◌, map};
 ghost use Rattle.bench_figures.specs.Figures.{figures};
 

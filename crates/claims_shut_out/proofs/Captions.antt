@@ -21,7 +21,6 @@ use Rattle.caption_rules.specs.Caption.{negotiated_at, seen_before, good_records
 use Rattle.stream_history.specs.Paper.{Paper, blank, step}
 use Rattle.stream_history.specs.Paper.Event.{put, begun, ended, sized}
 use Rattle.claims.specs.Calls.{Kind, arrival_time}
-use Rattle.claims.specs.Calls.Call.{request}
 use Rattle.claims.specs.Machine.{Session}
 use Rattle.claims.specs.Desk.{desk_in}
 use Rattle.claims.specs.Demands.{Demand1, Answers}

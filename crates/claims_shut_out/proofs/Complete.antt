@@ -8,7 +8,6 @@ use Rattle.stream_history.specs.Paper.{Paper, Event, blank, step, handed_over}
 use Rattle.stream_history.specs.Paper.Event.{put, whole, handed, begun, ended}
 use Rattle.stream_history.specs.Claims.{AllHandedOver}
 use Rattle.claims.specs.Calls.{Kind, Call, arrival_time}
-use Rattle.claims.specs.Calls.Call.{request}
 use Rattle.claims.specs.Machine.{Session, more}
 use Rattle.claims.specs.Words.{opening_size, events_in, handed_in, paper_in}
 use Rattle.claims.specs.Demands.{Demand1}

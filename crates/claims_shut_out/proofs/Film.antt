@@ -21,7 +21,7 @@ use Rattle.picture_rules.specs.Picture.{whole_picture}
 use Rattle.stream_history.specs.Paper.{Paper, Event, step, count, wholes, dequeues}
 use Rattle.stream_history.specs.Paper.Event.{put, whole, damaged, begun, idle}
 use Rattle.claims.specs.Calls.{Kind, Call, arrival_time}
-use Rattle.claims.specs.Calls.Call.{request, arrival}
+use Rattle.claims.specs.Calls.Call.{arrival}
 use Rattle.claims.specs.Machine.{Session, more}
 use Rattle.claims.specs.Words.{arrival_told, told, seen_in, events_in, paper_in}
 use Rattle.claims.specs.Desk.{desk_in}

@@ -1,4 +1,6 @@
 // Devices that the demands leave no room for, as theorems: the contract of a function that does nothing.
+#![tactic(auto)]
+
 ghost use Rattle.std.specs.Prelude.{◌≡◌, true};
 ghost use Rattle.claims_shut_out.specs.Faults.{ShutOut};
 ghost use Rattle.claims_shut_out.specs.Wrong.{WrongDevices};

@@ -1,4 +1,6 @@
 // The requests about the device, its formats and services, and its crop: the argument's length is tested, and the call goes to its handler.
+#![tactic(auto)]
+
 ghost use Rattle.std.specs.Prelude.{◌≡◌};
 ghost use Rattle.device_state.specs.Setup.{setup_in};
 ghost use Rattle.device_state.specs.State.{State, with_settings};

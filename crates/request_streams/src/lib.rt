@@ -1,5 +1,7 @@
 // The requests about the streams. The argument's length is tested, then the type that it names, and the call goes to the stream of that
 // type, of pictures or of captions.
+#![tactic(auto)]
+
 ghost use Rattle.std.specs.Prelude.{◌≡◌, List, ℕ};
 ghost use Rattle.stream_words.specs.Words.{stream_in};
 ghost use Rattle.device_state.specs.State.{State, with_streams};

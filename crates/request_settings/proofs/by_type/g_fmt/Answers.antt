@@ -1,10 +1,8 @@
 -- By the type, what the handler of each promises. Assumes nothing.
-use mathlib.Core.Path.{◌∙◌, sym, ap}
-use Rattle.device_state.proofs.Typed.{by_pictures, by_captions_law, by_neither}
+use mathlib.Core.Path.{◌∙◌, sym}
+use Rattle.device_state.proofs.Typed.{by_pictures}
 use Rattle.device_state.specs.Setup.{setup_in}
 use Rattle.device_state.specs.State.{with_settings}
-use Rattle.request_topics.specs.Request.{by_services}
-use borrow.Author.Rules.{rules}
 use Rattle.request_settings.proofs.by_type.g_fmt.Goals as goal
 
 pub returns-then-kind-eq-PICTURES : goal.returns-then-kind-eq-PICTURES

@@ -6,10 +6,9 @@ use Rattle.claims_shut_out.proofs.Stopped.{soon_when_stopped_law, never_soon_law
 use Rattle.claims_shut_out.proofs.Sizes.{tie_up_law, greatest_missed_law, from_above_law}
 use Rattle.claims_shut_out.proofs.Crops.{fields_mixed, top_lowered, crop_moved}
 use Rattle.claims_shut_out.proofs.Streams.{streams_mixed_law, held_up_law, twice_taken_law, all_types_law, one_verdict_law}
-use Rattle.claims_shut_out.proofs.shut_out.Statement.{statement}
-use Rattle.claims_shut_out.proofs.shut_out.Tie as tie
+use Rattle.claims_shut_out.proofs.shut_out.Goals as goal
 
-returns : tie.Need-returns
+pub returns : goal.returns
 returns c = (
   refl,
   record {
@@ -46,6 +45,3 @@ returns c = (
     one_verdict_law = one_verdict_law;
   },
 )
-
-pub shut_out_spec : {M : Type 1} → statement M
-shut_out_spec = tie.close (tie.spec returns)
