@@ -12,7 +12,7 @@ use Rattle.stream_arrival.specs.Arrivals.{run_limit}
 use Rattle.stream_history.specs.Paper.{Paper, step}
 use Rattle.stream_history.specs.Paper.Event.{ended}
 use Rattle.claims.specs.Calls.{Kind, Call}
-use Rattle.claims.specs.Machine.{Session, Machine, more}
+use Rattle.claims.specs.Machine.{Session, more}
 use Rattle.claims.specs.Words.{paper_in}
 use Rattle.claims.specs.Table.{arrival_number}
 use Rattle.claims.specs.Demands.{Demand1, Answers, Counts}

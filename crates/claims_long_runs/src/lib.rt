@@ -1,5 +1,7 @@
 // Runs that outlast the number of a frame, which has 32 bits: what every machine that meets the demands answers then, and devices that go wrong
 // only there. As in `claims`, nothing runs: each function is named after a claim, and its contract is the claim.
+#![tactic(auto)]
+
 ghost use Rattle.std.specs.Prelude.{◌≡◌, true};
 ghost use Rattle.claims_long_runs.specs.Films.{EachOnce, LongFilms};
 ghost use Rattle.claims_long_runs.specs.Late.{LateFaults, LateDevices};

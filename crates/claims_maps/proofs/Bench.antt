@@ -1,31 +1,25 @@
 -- Maps of buffer 0 of the pictures on the bench: what our device gives back to them.
-use mathlib.Core.Path.{◌≡◌, refl, sym, ap, ap₂, ◌∙◌}
+use mathlib.Core.Path.{◌≡◌, refl, ap, ap₂, ◌∙◌}
 use mathlib.Core.Bool.{Bool, true, false, cond, not}
-use Prim.Native.Nat.{ℕ, zero, suc, ◌+◌, ◌<◌}
-use native.Mathlib.Omega.{arith}
+use Prim.Native.Nat.{ℕ, zero, suc}
 use lib.Dec.{eqb, leb}
 use mathlib.Core.List.{List, [], ◌∷◌}
-use Rattle.wire_read.specs.Words.{word_at, le32, bytes_of}
-use Rattle.wire_read.specs.Lists.{any}
-use Rattle.ioctl_table.specs.Table.{request_of, call_of, known_words}
 use Rattle.stream_slots.specs.Slot.{slot_size, is_slot, buffer_at}
-use Rattle.stream_maps.specs.declared.Change.{Change}
-use Rattle.stream_maps.specs.declared.Change.TheVariants.{Map, Unmap}
-use Rattle.stream_maps.specs.Maps.{no_maps, maps_of, any_mapped}
+use Rattle.stream_maps.specs.declared.Change.TheVariants.{Map}
+use Rattle.stream_maps.specs.Maps.{no_maps, maps_of}
 use Rattle.stream_history.specs.Paper.{Paper, step}
 use Rattle.stream_history.specs.Paper.Event.{changed, idle}
 use Rattle.claims.specs.Calls.{Kind, Call}
-use Rattle.claims.specs.Calls.Call.{request, change}
+use Rattle.claims.specs.Calls.Call.{change}
 use Rattle.claims.specs.Machine.{Session, more}
-use Rattle.claims.specs.Words.{paper_in, papers_in}
-use Rattle.claims.specs.Table.{first_number, change_tests}
+use Rattle.claims.specs.Words.{paper_in}
 use Rattle.claims.specs.Demands.{Demand1, Answers}
 use Rattle.claims.proofs.Sessions.{paper_more}
 use Rattle.claims_together.proofs.Meets.{device_meets}
 use Rattle.bench_sheet.specs.Bench.{bench_sheet}
 use Rattle.claims_shut_out.specs.Calls.{dark, reqbufs}
 use Rattle.claims_shut_out.specs.Wrong.{ours}
-use Rattle.claims_shut_out.proofs.Played.{opens, four, at_four}
+use Rattle.claims_shut_out.proofs.Played.{opens, at_four}
 
 -- our device, on the bench
 abbrev pub S : Session

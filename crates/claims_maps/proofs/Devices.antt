@@ -1,7 +1,7 @@
 -- A device for each fault of the maps: where it shows.
 use mathlib.Core.Path.{◌≡◌, refl, sym, ap, ap₂, ◌∙◌}
 use mathlib.Core.Logic.{inl}
-use mathlib.Core.Bool.{Bool, true, false, cond, ◌&&◌}
+use mathlib.Core.Bool.{Bool, true, false, cond}
 use Prim.Native.Nat.{ℕ, zero, suc, ◌+◌, ◌%◌, ◌<◌}
 use native.Mathlib.Omega.{arith}
 use lib.Dec.{eqb, leb}
@@ -12,26 +12,23 @@ use Rattle.wire_signed.specs.Signed.{bits}
 use Rattle.ioctl_table.specs.Table.{request_of, call_of, known_words}
 use Rattle.stream_slots.specs.Slot.{slot_size, buffer_at}
 use Rattle.stream_slots.proofs.Slots.{slot_least}
-use Rattle.stream_words.specs.Moves.{no_frame, standing_of, is_incoming, is_outgoing}
-use Rattle.stream_maps.specs.declared.Change.{Change}
+use Rattle.stream_words.specs.Moves.{standing_of, is_incoming, is_outgoing}
 use Rattle.stream_maps.specs.declared.Change.TheVariants.{Map, Unmap}
 use Rattle.stream_maps.specs.Maps.{no_maps, maps_of}
 use Rattle.stream_status.specs.Buffer.{described_of}
 use Rattle.buffer_replies.specs.Replies.{buffer_reply}
 use Rattle.stream_history.specs.Paper.{Paper, Event, step}
 use Rattle.stream_history.specs.Paper.Event.{ended, changed, idle}
-use Rattle.claims.specs.Calls.{Kind, Call}
-use Rattle.claims.specs.Calls.Call.{request, change}
-use Rattle.claims.specs.Machine.{Session, Machine, Given, more}
+use Rattle.claims.specs.Calls.{Kind}
 use Rattle.claims.specs.Words.{paper_in}
 use Rattle.claims.specs.Answers.{status_on}
 use Rattle.claims.proofs.Sessions.{paper_more}
 use Rattle.claims.proofs.Devices.{device_papered}
-use Rattle.claims_together.specs.Mapped.{is_one, accepted}
-use Rattle.claims_together.proofs.Meets.{device_meets, device_maps}
+use Rattle.claims_together.specs.Mapped.{accepted}
+use Rattle.claims_together.proofs.Meets.{device_maps}
 use Rattle.claims_together.proofs.Mapped.{accepted_more, tells}
 use Rattle.bench_sheet.specs.Bench.{bench_sheet}
-use Rattle.claims_shut_out.specs.Calls.{dark, reqbufs, streamoff, buffer, buffer_of, video}
+use Rattle.claims_shut_out.specs.Calls.{dark, reqbufs, streamoff, buffer, video}
 use Rattle.claims_shut_out.proofs.Instances.{wrong}
 use Rattle.claims_shut_out.proofs.Played.{asked, then, four, at_four}
 use Rattle.claims_maps.specs.Faults.{flag_of, GrantedAnew, HeldByOther, MappedTooOften, Misflagged, AnyLength}

@@ -1,11 +1,10 @@
 -- Devices that have the faults of the maps, each like ours but for one thing.
-use Rattle.std.specs.Prelude.{ℕ, ◌+◌, ◌-◌, ◌%◌, Bool, true, false, cond, List, [], ◌∷◌, eqb, get_or, set}
+use Rattle.std.specs.Prelude.{ℕ, ◌+◌, ◌-◌, ◌%◌, Bool, true, false, cond, List, eqb, get_or, set}
 use Rattle.wire_read.specs.Lists.{any}
-use Rattle.wire_read.specs.Words.{word_at}
 use Rattle.ioctl_table.specs.Table.{request_of}
 use Rattle.ioctl_table.specs.declared.table.Call.TheVariants.{Reqbufs, Querybuf, Streamoff}
 use Rattle.stream_maps.specs.declared.Change.{Change}
-use Rattle.claims.specs.Calls.{Kind, type_of, Call}
+use Rattle.claims.specs.Calls.{Call}
 use Rattle.claims.specs.Calls.Call.{request, arrival, change}
 use Rattle.claims.specs.Machine.{Session, Machine, Given}
 use Rattle.claims_shut_out.specs.Wrong.{ours, place, only, with_request, Wrong}

@@ -1,5 +1,7 @@
 // Faults of the maps that no machine has which meets the demands, and devices that have them. As in `claims`, nothing runs: each function is named
 // after a claim, and its contract is the claim.
+#![tactic(auto)]
+
 ghost use Rattle.std.specs.Prelude.{◌≡◌, true};
 ghost use Rattle.claims_maps.specs.Faults.{MapFaults};
 ghost use Rattle.claims_maps.specs.Devices.{MapDevices};

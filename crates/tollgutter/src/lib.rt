@@ -1,6 +1,8 @@
 // The device for programs in C, and the packing of caption lines, which needs none: include/tollgutter.h declares the functions that this crate
 // exports. The caller owns the device and lends it to each call, which lends its arrays on. A device is numbers only, so that every content
 // of it is one that the contracts speak of.
+#![tactic(auto)]
+
 ghost use Rattle.std.specs.Prelude.{◌≡◌, length};
 ghost use Rattle.stream_words.specs.Words.{time_of};
 ghost use Rattle.arrival_replies.specs.Answer.{told_of};

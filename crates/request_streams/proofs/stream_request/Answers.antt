@@ -1,5 +1,4 @@
 -- Each arm as its call promises. Assumes nothing.
-use mathlib.Core.List.{[], ◌∷◌}
 use native.Mathlib.Omega.{arith}
 use Rattle.ioctl_table.specs.declared.table.Call.{Call}
 use Rattle.request_topics.specs.Request.{topic_of}
@@ -8,7 +7,6 @@ use Rattle.stream_words.specs.Words.{stream_in}
 use Rattle.ioctl_table.specs.declared.table.Call.TheVariants.{Reqbufs, Querybuf, Qbuf, Dqbuf, Streamon, Streamoff}
 use Rattle.device_state.specs.State.{with_streams}
 use Rattle.request_topics.proofs.Cases.{arm_length, arm_called, topic_other}
-use borrow.Author.Rules.{rules}
 use Rattle.request_streams.proofs.stream_request.Goals as goal
 
 pub returns-then-argument-ne20 : goal.returns-then-argument-ne20
