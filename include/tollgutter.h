@@ -1,6 +1,6 @@
 /* Tollgutter: one Video for Linux Two capture device, proved. C99, and C++.
  *
- * The library is target/staticlib/libtollgutter.a (`rt staticlib tollgutter`). It allocates nothing, keeps nothing between
+ * The library is crates/tollgutter/out/libtollgutter.a (tools/archive makes it). It allocates nothing, keeps nothing between
  * calls and depends on nothing: the caller owns the device, the arguments, the memories and the frames.
  * Every call answers every content of what it is lent; a refused call changes nothing. Numbers given back:
  *

@@ -9,9 +9,9 @@ use std::io::{BufWriter, Read, Write};
 
 fn main(rt: HostRuntime) -> io::Result<()> {
     let mut lines = Vec::new(rt.alloc());
-    rt.reader().read_to_end(&mut lines)?;
+    rt.reader().take(65536).read_to_end(&mut lines)?;
     let mut out = BufWriter::new(rt.alloc(), io::writer(&rt))?;
     let mut space = [0u8; 3000];
-    cases::table(&mut out, &mut space, wire_read::part(&lines, 0, 65536))?;
+    cases::table(&mut out, &mut space, &lines)?;
     out.flush()
 }

@@ -11,8 +11,8 @@ use std::io::{BufWriter, Read, Write};
 fn main(rt: HostRuntime) -> io::Result<()> {
     let mut memory = [0u8; 139264];
     let mut lists = Vec::new(rt.alloc());
-    rt.reader().read_to_end(&mut lists)?;
+    rt.reader().take(65536).read_to_end(&mut lists)?;
     let mut out = BufWriter::new(rt.alloc(), io::writer(&rt))?;
-    events::table(&mut out, &mut memory, wire_read::part(&lists, 0, 65536))?;
+    events::table(&mut out, &mut memory, &lists)?;
     out.flush()
 }
