@@ -8,7 +8,7 @@ use stream_arrival::Arrival;
 
 // An answer in numbers: its kind, the number that goes with it, the buffer.
 #[repr(C)]
-#[derive(Drop)]
+#[derive(Clone, Copy)]
 pub struct Told {
     pub kind: u32,
     pub number: u32,

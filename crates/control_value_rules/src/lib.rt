@@ -8,14 +8,14 @@ use ioctl_table::Refusal;
 use sheet_records::{Control, Limits};
 
 // What G_CTRL answers.
-#[derive(Drop)]
+#[derive(Clone, Copy)]
 pub enum Reading {
     Value(u32),
     Refused(Refusal),
 }
 
 // What S_CTRL does: a value stored at a place, a button pressed, or nothing.
-#[derive(Drop)]
+#[derive(Clone, Copy)]
 pub enum Setting {
     Stored(u32, u32),
     Pressed,

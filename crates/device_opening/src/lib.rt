@@ -8,7 +8,7 @@ use device_state::Device;
 use ioctl_table::Refusal;
 
 // What an opening gives back, and the device that it makes.
-#[derive(Drop)]
+#[derive(Clone, Copy)]
 pub struct Made {
     pub number: u32,
     pub device: Device,

@@ -28,7 +28,7 @@ pub enum Call {
 }
 
 // What a word asks for: the call, and the length in bytes that its argument has to have.
-#[derive(Drop)]
+#[derive(Clone, Copy)]
 pub struct Request {
     pub call: Call,
     pub size: usize,

@@ -11,7 +11,7 @@ ghost use Rattle.ivtv_rules.specs.Writing.{good_lines, line_for, packable, packe
 type Places = [u8; 36];
 
 // Whether all records are good; then the mask of the lines that they name, and where each record is.
-#[derive(Drop)]
+#[derive(Clone, Copy)]
 struct Sorted {
     good: bool,
     mask: u64,

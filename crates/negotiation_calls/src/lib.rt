@@ -14,7 +14,7 @@ use format_rules::Format;
 use ioctl_table::Refusal;
 
 // A format with its line and image size.
-#[derive(Drop)]
+#[derive(Clone, Copy)]
 struct Picture {
     format: Format,
     line: u32,

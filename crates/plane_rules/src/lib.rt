@@ -9,7 +9,7 @@ use format_rules::Format;
 use ioctl_table::Refusal;
 
 // What a plane holds.
-#[derive(Drop)]
+#[derive(Clone, Copy)]
 pub enum Component {
     Nothing,
     Packed,
@@ -21,7 +21,7 @@ pub enum Component {
 
 // Where a plane lies in its frame: length bytes from start on, and 0 in number; or no bytes, and the number of a refusal.
 #[repr(C)]
-#[derive(Drop)]
+#[derive(Clone, Copy)]
 pub struct Place {
     pub number: u32,
     pub start: usize,

@@ -6,7 +6,7 @@ ghost use Rattle.sheet_geometry.specs.Geometry.{range_at, widths_of, heights_of,
 
 // The allowed widths or heights: from least to greatest by step.
 #[repr(C)]
-#[derive(Drop)]
+#[derive(Clone, Copy)]
 pub struct Range {
     pub least: u32,
     pub greatest: u32,
@@ -25,7 +25,7 @@ pub struct Rect {
 
 // v4l2_fract.
 #[repr(C)]
-#[derive(Drop)]
+#[derive(Clone, Copy)]
 pub struct Fraction {
     pub numerator: u32,
     pub denominator: u32,

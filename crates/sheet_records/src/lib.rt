@@ -7,7 +7,7 @@ pub use formats::{format_code, format_description};
 
 // The four numbers of a control: its values go from minimum to maximum by step, and initial is the default.
 #[repr(C)]
-#[derive(Drop)]
+#[derive(Clone, Copy)]
 pub struct Limits {
     pub minimum: i32,
     pub maximum: i32,
@@ -17,7 +17,7 @@ pub struct Limits {
 
 // What v4l2_queryctrl says of a control, its name left out; kind is the type.
 #[repr(C)]
-#[derive(Drop)]
+#[derive(Clone, Copy)]
 pub struct Control {
     pub id: u32,
     pub kind: u32,

@@ -8,7 +8,7 @@ ghost use Rattle.stream_maps.specs.Maps.{is_mapped, any_mapped};
 use stream_words::{MAPS, Words};
 
 // What becomes of a count.
-#[derive(Drop)]
+#[derive(Clone, Copy)]
 pub enum Change {
     Map,
     Unmap,

@@ -12,7 +12,7 @@ use stream_words::Filled;
 pub use switches::{request_buffers, start, stop};
 
 // What a call is answered.
-#[derive(Drop)]
+#[derive(Clone, Copy)]
 pub enum Reply {
     Done,
     Granted(u32),

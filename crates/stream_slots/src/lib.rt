@@ -5,7 +5,7 @@ ghost use Rattle.std.specs.Prelude.{◌≡◌};
 ghost use Rattle.stream_slots.specs.Slot.{slot_size, slot_offset, slot_at};
 
 // The buffer that an offset and a length mean, if they mean one.
-#[derive(Drop)]
+#[derive(Clone, Copy)]
 pub enum Slot {
     NoBuffer,
     Buffer(u32),

@@ -10,7 +10,7 @@ use stream_words::{Filled, Standing, Time, Words};
 
 // A buffer as QUERYBUF, QBUF and DQBUF describe it.
 #[repr(C)]
-#[derive(Drop)]
+#[derive(Clone, Copy)]
 pub struct Status {
     pub index: u32,
     pub used: u32,
@@ -22,7 +22,7 @@ pub struct Status {
 }
 
 // What asking for the status of a buffer gives.
-#[derive(Drop)]
+#[derive(Clone, Copy)]
 pub enum Queried {
     Buffer(Status),
     Refused(Refusal),

@@ -8,7 +8,7 @@ ghost use Rattle.stream_verdict.specs.Film.{verdict_of, verdict_number};
 use stream_words::Words;
 
 // What can be said of the film of the last run.
-#[derive(Drop)]
+#[derive(Clone, Copy)]
 pub enum Verdict {
     Running,
     Blank,

@@ -32,14 +32,14 @@ pub enum Standing {
 }
 
 // The frame that has been held longest.
-#[derive(Drop)]
+#[derive(Clone, Copy)]
 pub enum Oldest {
     Empty,
     Frame(Filled),
 }
 
 // The buffer that has waited longest for a frame.
-#[derive(Drop)]
+#[derive(Clone, Copy)]
 pub enum Next {
     Nobody,
     Index(u32),
