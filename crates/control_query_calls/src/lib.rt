@@ -2,6 +2,7 @@
 #![tactic(auto)]
 
 ghost use Rattle.std.specs.Prelude.{◌≡◌};
+ghost use Rattle.ioctl_table.specs.Refusal.{number_of};
 ghost use Rattle.device_state.specs.State.{State};
 ghost use Rattle.device_state.specs.Answers.{answer};
 ghost use Rattle.control_query_calls.specs.Query.{queryctrl_of};
@@ -9,13 +10,13 @@ ghost use Rattle.control_query_calls.specs.Query.{queryctrl_of};
 use ioctl_table::Refusal;
 
 // The control of an id, or with bit 31 the one of the next higher id.
-pub fn queryctrl(sheet: &[u8], argument: &mut [u8]) -> u32
-    ensures { (d : State) → answer result d argument.new ≡ queryctrl_of sheet.now d argument.old }
+pub fn queryctrl(sheet: &[u8], argument: &mut [u8]) -> Result<(), Refusal>
+    ensures { (d : State) → answer (number_of result) d argument.new ≡ queryctrl_of sheet.now d argument.old }
 {
     let k = control_place_rules::queried(sheet, wire_read::word_at(argument, 0));
     if control_place_rules::count(sheet) <= k {
-        return ioctl_table::errno(Refusal::NoSuchControl);
+        return Err(Refusal::NoSuchControl);
     }
     control_replies::put_control(argument, sheet, k);
-    0
+    Ok(())
 }

@@ -2,6 +2,7 @@
 #![tactic(auto)]
 
 ghost use Rattle.std.specs.Prelude.{◌≡◌};
+ghost use Rattle.ioctl_table.specs.Refusal.{number_of};
 ghost use Rattle.device_state.specs.Setup.{setup_in};
 ghost use Rattle.device_state.specs.State.{State, with_setup};
 ghost use Rattle.device_state.specs.Answers.{answer};
@@ -24,37 +25,37 @@ fn asked(argument: &[u8]) -> Rect
 }
 
 // Bounds, default and pixel aspect.
-pub fn cropcap(sheet: &[u8], argument: &mut [u8]) -> u32
-    ensures { (d : State) → answer result d argument.new ≡ cropcap_of sheet.now d argument.old }
+pub fn cropcap(sheet: &[u8], argument: &mut [u8]) -> Result<(), Refusal>
+    ensures { (d : State) → answer (number_of result) d argument.new ≡ cropcap_of sheet.now d argument.old }
 {
     if wire_read::word_at(argument, 0) != 1 {
-        return ioctl_table::errno(Refusal::WrongType);
+        return Err(Refusal::WrongType);
     }
     crop_replies::put_crop_capability(argument, sheet);
-    0
+    Ok(())
 }
 
 // The present crop.
-pub fn g_crop(setup: &SetupWords, argument: &mut [u8]) -> u32
-    ensures { (d : State) → answer result (with_setup d (setup_in setup.now)) argument.new
+pub fn g_crop(setup: &SetupWords, argument: &mut [u8]) -> Result<(), Refusal>
+    ensures { (d : State) → answer (number_of result) (with_setup d (setup_in setup.now)) argument.new
         ≡ g_crop_of (with_setup d (setup_in setup.now)) argument.old }
 {
     if wire_read::word_at(argument, 0) != 1 {
-        return ioctl_table::errno(Refusal::WrongType);
+        return Err(Refusal::WrongType);
     }
     crop_replies::put_crop(argument, device_crop::crop_in(setup));
-    0
+    Ok(())
 }
 
 // Another crop, brought inside the bounds, with the fields apart. The request is write-only: its argument stays.
-pub fn s_crop(sheet: &[u8], setup: &mut SetupWords, argument: &[u8]) -> u32
-    ensures { (d : State) → answer result (with_setup d (setup_in setup.new)) argument.now
+pub fn s_crop(sheet: &[u8], setup: &mut SetupWords, argument: &[u8]) -> Result<(), Refusal>
+    ensures { (d : State) → answer (number_of result) (with_setup d (setup_in setup.new)) argument.now
         ≡ s_crop_of sheet.now (with_setup d (setup_in setup.old)) argument.now }
 {
     if wire_read::word_at(argument, 0) != 1 {
-        return ioctl_table::errno(Refusal::WrongType);
+        return Err(Refusal::WrongType);
     }
     let r = crop_rules::clamp(sheet_crop::crop_bounds(sheet), asked(argument));
     device_crop::keep_crop(setup, r);
-    0
+    Ok(())
 }

@@ -12,8 +12,8 @@ use Rattle.device_state.specs.Answers.{Answer, answer, typed, by_type}
 -- a call that only pictures have; the word w read at the type's place
 module _ (at : ℕ) (d : State) (a : List ℕ) (r : Answer) {w : ℕ} (e : w ≡ word_at a at) where
   -- another type is refused
-  pub typed_refused : {n : ℕ} → (w ≡ 1 → ⊥) → n ≡ errno_of WrongType → answer n d a ≡ typed at d a r
-  typed_refused h q = rw (← e, ne_eqb w 1 h, q)
+  pub typed_refused : (w ≡ 1 → ⊥) → answer (errno_of WrongType) d a ≡ typed at d a r
+  typed_refused h = rw (← e, ne_eqb w 1 h)
 
   -- type 1 goes on
   pub typed_passed : w ≡ 1 → typed at d a r ≡ r
@@ -30,5 +30,5 @@ module _ (at : ℕ) (d : State) (a : List ℕ) (p c : Answer) {w : ℕ} (e : w �
   by_captions_law h = rw (← e, h)
 
   -- another type is refused
-  pub by_neither : {n : ℕ} → (w ≡ 1 → ⊥) → (w ≡ 6 → ⊥) → n ≡ errno_of WrongType → answer n d a ≡ by_type at d a p c
-  by_neither h k q = rw (← e, ne_eqb w 1 h, ne_eqb w 6 k, q)
+  pub by_neither : (w ≡ 1 → ⊥) → (w ≡ 6 → ⊥) → answer (errno_of WrongType) d a ≡ by_type at d a p c
+  by_neither h k = rw (← e, ne_eqb w 1 h, ne_eqb w 6 k)

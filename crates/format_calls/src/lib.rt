@@ -2,6 +2,7 @@
 #![tactic(auto)]
 
 ghost use Rattle.std.specs.Prelude.{◌≡◌};
+ghost use Rattle.ioctl_table.specs.Refusal.{number_of};
 ghost use Rattle.device_state.specs.Setup.{setup_in};
 ghost use Rattle.device_state.specs.State.{State, with_setup};
 ghost use Rattle.device_state.specs.Answers.{answer};
@@ -11,31 +12,30 @@ use device_state::SetupWords;
 use ioctl_table::Refusal;
 
 // What the device is.
-pub fn querycap(sheet: &[u8], argument: &mut [u8]) -> u32
-    ensures { (d : State) → answer result d argument.new ≡ querycap_of sheet.now d argument.old }
+pub fn querycap(sheet: &[u8], argument: &mut [u8])
+    ensures { (d : State) → answer 0 d argument.new ≡ querycap_of sheet.now d argument.old }
 {
     format_replies::put_capability(argument, sheet);
-    0
 }
 
 // The format of an index.
-pub fn enum_fmt(sheet: &[u8], argument: &mut [u8]) -> u32
-    ensures { (d : State) → answer result d argument.new ≡ enum_fmt_of sheet.now d argument.old }
+pub fn enum_fmt(sheet: &[u8], argument: &mut [u8]) -> Result<(), Refusal>
+    ensures { (d : State) → answer (number_of result) d argument.new ≡ enum_fmt_of sheet.now d argument.old }
 {
     let k = wire_read::word_at(argument, 0);
     if wire_read::word_at(argument, 4) != 1 {
-        return ioctl_table::errno(Refusal::WrongType);
+        return Err(Refusal::WrongType);
     }
     if sheet_contents::format_count(sheet) <= k {
-        return ioctl_table::errno(Refusal::NoSuchIndex);
+        return Err(Refusal::NoSuchIndex);
     }
     format_replies::put_description(argument, sheet, k);
-    0
+    Ok(())
 }
 
 // The present format.
-pub fn g_fmt(setup: &SetupWords, argument: &mut [u8]) -> u32
-    ensures { (d : State) → answer result (with_setup d (setup_in setup.now)) argument.new
+pub fn g_fmt(setup: &SetupWords, argument: &mut [u8])
+    ensures { (d : State) → answer 0 (with_setup d (setup_in setup.now)) argument.new
         ≡ g_fmt_of (with_setup d (setup_in setup.now)) argument.old }
 {
     let f = device_setup::format_in(setup);
@@ -46,5 +46,4 @@ pub fn g_fmt(setup: &SetupWords, argument: &mut [u8]) -> u32
         setup[device_state::LINE],
         setup[device_state::SIZE],
     );
-    0
 }

@@ -1,5 +1,5 @@
 -- The numbers of the refusals.
-use Rattle.std.specs.Prelude.{Bool, false, ◌||◌, List, [], ◌∷◌, ℕ, eqb}
+use Rattle.std.specs.Prelude.{Bool, false, ◌||◌, List, [], ◌∷◌, ℕ, eqb, Result, Ok, Err}
 use Rattle.ioctl_table.specs.declared.refusals.Refusal.{Refusal}
 use Rattle.ioctl_table.specs.declared.refusals.Refusal.TheVariants.{ArgumentLength, MemoryLength, Closed, UnknownWord, WrongType, WrongMemory, NoSuchIndex, NoSuchControl, NotDequeued, NoBuffers, NotStreaming, ControlDisabled, ControlReadOnly, ControlIsButton, BadSheet, MemoryTooLong, NoSuchPlane, NoSuchBuffer, NotMapped, BuffersExist, StillMapped, Streaming, ControlGrabbed, OutOfRange, NothingOutgoing, RunFull, MapsFull, BadLines, BadBlock}
 
@@ -63,6 +63,11 @@ errno_of MapsFull = 75
 errno_of BadLines = 22
 -- a block to be read breaks a rule, or what is lent for its lines is not of their length
 errno_of BadBlock = 22
+
+-- the number that a call gives back: 0 where it is done, or that of the refusal
+abbrev pub number_of : Result Unit Refusal → ℕ
+number_of (Ok done) = 0
+number_of (Err why) = errno_of why
 
 -- the number is one of the list
 abbrev pub any_of : ℕ → List ℕ → Bool

@@ -3,6 +3,7 @@
 #![tactic(auto)]
 
 ghost use Rattle.std.specs.Prelude.{◌≡◌};
+ghost use Rattle.ioctl_table.specs.Refusal.{number_of};
 ghost use Rattle.negotiation_rules.specs.Negotiation.{negotiated};
 ghost use Rattle.device_state.specs.Setup.{setup_in};
 ghost use Rattle.device_state.specs.State.{State, with_setup};
@@ -34,26 +35,25 @@ fn pictured(sheet: &[u8], asked: Format) -> Picture
 }
 
 // Another format, while there are no buffers; so many are granted.
-pub fn s_fmt(sheet: &[u8], setup: &mut SetupWords, granted: u64, argument: &mut [u8]) -> u32
-    ensures { (d : State) → d.video.queues.granted ≡ granted → answer result (with_setup d (setup_in setup.new)) argument.new
+pub fn s_fmt(sheet: &[u8], setup: &mut SetupWords, granted: u64, argument: &mut [u8]) -> Result<(), Refusal>
+    ensures { (d : State) → d.video.queues.granted ≡ granted → answer (number_of result) (with_setup d (setup_in setup.new)) argument.new
         ≡ s_fmt_of sheet.now (with_setup d (setup_in setup.old)) argument.old }
 {
     if granted != 0 {
-        return ioctl_table::errno(Refusal::BuffersExist);
+        return Err(Refusal::BuffersExist);
     }
     let p = pictured(sheet, negotiation_rules::asked(argument));
     let f = p.format;
     negotiation_replies::put_format(argument, 1, f, p.line, p.size);
     device_setup::keep_format(setup, f, p.line, p.size);
-    0
+    Ok(())
 }
 
 // The format that S_FMT would set.
-pub fn try_fmt(sheet: &[u8], argument: &mut [u8]) -> u32
-    ensures { (d : State) → answer result d argument.new ≡ try_fmt_of sheet.now d argument.old }
+pub fn try_fmt(sheet: &[u8], argument: &mut [u8])
+    ensures { (d : State) → answer 0 d argument.new ≡ try_fmt_of sheet.now d argument.old }
 {
     let p = pictured(sheet, negotiation_rules::asked(argument));
     let f = p.format;
     negotiation_replies::put_format(argument, 1, f, p.line, p.size);
-    0
 }

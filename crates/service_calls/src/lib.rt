@@ -3,6 +3,7 @@
 #![tactic(auto)]
 
 ghost use Rattle.std.specs.Prelude.{◌≡◌, List, ℕ};
+ghost use Rattle.ioctl_table.specs.Refusal.{number_of};
 ghost use Rattle.service_calls.specs.Services.{services_answer, g_services_of, s_services_of, try_services_of, services_capability_of};
 
 use ioctl_table::Refusal;
@@ -12,42 +13,40 @@ use service_rules::Lines;
 const SLICED: u32 = 6;
 
 // The services in force.
-pub fn g_fmt(lines: &Lines, kind: u32, argument: &mut [u8]) -> u32
-    ensures { services_answer result lines.now argument.new ≡ g_services_of kind lines.now argument.old }
+pub fn g_fmt(lines: &Lines, kind: u32, argument: &mut [u8])
+    ensures { services_answer 0 lines.now argument.new ≡ g_services_of kind lines.now argument.old }
 {
     service_replies::put_services(argument, kind, lines);
-    0
 }
 
 // Other services, while there are no buffers; so many are granted.
-pub fn s_fmt(lines: &mut Lines, kind: u32, granted: u64, argument: &mut [u8]) -> u32
-    ensures { services_answer result lines.new argument.new ≡ s_services_of kind granted lines.old argument.old }
+pub fn s_fmt(lines: &mut Lines, kind: u32, granted: u64, argument: &mut [u8]) -> Result<(), Refusal>
+    ensures { services_answer (number_of result) lines.new argument.new ≡ s_services_of kind granted lines.old argument.old }
 {
     if granted != 0 {
-        return ioctl_table::errno(Refusal::BuffersExist);
+        return Err(Refusal::BuffersExist);
     }
     let fitting = service_wishes::asked_services(argument);
     service_replies::put_services(argument, kind, &fitting);
     *lines = fitting;
-    0
+    Ok(())
 }
 
 // The services that S_FMT would set.
-pub fn try_fmt(kind: u32, argument: &mut [u8]) -> u32
-    ensures { (l : List ℕ) → services_answer result l argument.new ≡ try_services_of kind l argument.old }
+pub fn try_fmt(kind: u32, argument: &mut [u8])
+    ensures { (l : List ℕ) → services_answer 0 l argument.new ≡ try_services_of kind l argument.old }
 {
     let fitting = service_wishes::asked_services(argument);
     service_replies::put_services(argument, kind, &fitting);
-    0
 }
 
 // What the device can do with sliced lines.
-pub fn g_sliced_vbi_cap(argument: &mut [u8]) -> u32
-    ensures { (l : List ℕ) → services_answer result l argument.new ≡ services_capability_of l argument.old }
+pub fn g_sliced_vbi_cap(argument: &mut [u8]) -> Result<(), Refusal>
+    ensures { (l : List ℕ) → services_answer (number_of result) l argument.new ≡ services_capability_of l argument.old }
 {
     if wire_read::word_at(argument, 100) != SLICED {
-        return ioctl_table::errno(Refusal::WrongType);
+        return Err(Refusal::WrongType);
     }
     service_replies::put_services_capability(argument, SLICED);
-    0
+    Ok(())
 }

@@ -5,7 +5,7 @@ use Rattle.control_query_calls.proofs.queryctrl.Goals as goal
 
 pub returns-then-count-k : goal.returns-then-count-k
 unfolding queryctrl_of
-returns-then-count-k c d = rw (← c.word_at.ensures, ← c.queried-k.ensures, ← c.count.ensures, le-leb _ _ c.if-count-k.true, c.errno.ensures)
+returns-then-count-k c d = rw (← c.word_at.ensures, ← c.queried-k.ensures, ← c.count.ensures, le-leb _ _ c.if-count-k.true)
 
 pub returns : goal.returns
 unfolding queryctrl_of

@@ -5,7 +5,7 @@ use Rattle.crop_calls.proofs.cropcap.Goals as goal
 
 pub returns-then-word_at-ne1 : goal.returns-then-word_at-ne1
 unfolding cropcap_of
-returns-then-word_at-ne1 c d = typed_refused 0 d _ _ c.word_at.ensures c.if-word_at-ne1.true c.errno.ensures
+returns-then-word_at-ne1 c d = typed_refused 0 d _ _ c.word_at.ensures c.if-word_at-ne1.true
 
 pub returns : goal.returns
 unfolding cropcap_of

@@ -5,7 +5,7 @@ use Rattle.crop_calls.proofs.s_crop.Goals as goal
 
 pub returns-then-word_at-ne1 : goal.returns-then-word_at-ne1
 unfolding s_crop_of
-returns-then-word_at-ne1 c x = typed_refused 0 _ _ _ c.word_at.ensures c.if-word_at-ne1.true c.errno.ensures
+returns-then-word_at-ne1 c x = typed_refused 0 _ _ _ c.word_at.ensures c.if-word_at-ne1.true
 
 pub returns : goal.returns
 unfolding s_crop_of

@@ -5,7 +5,7 @@ use Rattle.service_calls.proofs.g_sliced_vbi_cap.Goals as goal
 
 pub returns-then-word_at-ne-SLICED : goal.returns-then-word_at-ne-SLICED
 unfolding services_capability_of
-returns-then-word_at-ne-SLICED c l = rw (← c.word_at.ensures, ne_eqb _ _ c.if-word_at-ne-SLICED.true, c.errno.ensures)
+returns-then-word_at-ne-SLICED c l = rw (← c.word_at.ensures, ne_eqb _ _ c.if-word_at-ne-SLICED.true)
 
 pub returns : goal.returns
 unfolding services_capability_of

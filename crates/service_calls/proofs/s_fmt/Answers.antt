@@ -5,7 +5,7 @@ use Rattle.service_calls.proofs.s_fmt.Goals as goal
 
 pub returns-then-granted-ne0 : goal.returns-then-granted-ne0
 unfolding s_services_of
-returns-then-granted-ne0 c = rw (ne_eqb _ _ c.if-granted-ne0.true, c.errno.ensures)
+returns-then-granted-ne0 c = rw (ne_eqb _ _ c.if-granted-ne0.true)
 
 pub returns : goal.returns
 unfolding s_services_of
