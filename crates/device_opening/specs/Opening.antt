@@ -1,5 +1,5 @@
 -- Opening: any bytes as the sheet, any length of each memory.
-use Rattle.std.specs.Prelude.{ℕ, cond, not, List, ltb, replicate}
+use Rattle.std.specs.Prelude.{ℕ, cond, not, List, ltb, replicate, Result, Ok, Err}
 use Rattle.ioctl_table.specs.Refusal.{errno_of}
 use Rattle.ioctl_table.specs.declared.refusals.Refusal.{Refusal}
 use Rattle.ioctl_table.specs.declared.refusals.Refusal.TheVariants.{BadSheet, MemoryTooLong}
@@ -7,7 +7,6 @@ use Rattle.sheet_copy.specs.Copy.{kept_of}
 use Rattle.sheet_rules.specs.Rules.{good_sheet}
 use Rattle.device_state.specs.declared.Device.{Device}
 use Rattle.device_state.specs.State.{State, state_in, closed_state, opening_state}
-use Rattle.device_opening.specs.declared.Made.{Made}
 
 -- a device as a whole: the sheet that it keeps, and its state
 pub record Whole : Type 0 where
@@ -23,9 +22,6 @@ pub record Opened : Type 0 where
 abbrev pub whole_of : Device → Whole
 whole_of d = record { sheet = d.sheet; state = state_in d.setup d.values d.services d.video d.captions }
 
-abbrev pub made_as : Made → Opened
-made_as r = record { number = r.number; device = whole_of r.device }
-
 -- the longest memory of a stream
 abbrev pub longest_memory : ℕ
 longest_memory = 1073741824
@@ -33,6 +29,11 @@ longest_memory = 1073741824
 -- a refusal, and a closed device
 unfoldable pub closed_by : Refusal → Opened
 closed_by why = record { number = errno_of why; device = record { sheet = replicate 2688 0; state = closed_state } }
+
+-- a device made, or a refusal
+abbrev pub made_of : Result Device Refusal → Opened
+made_of (Ok d) = record { number = 0; device = whole_of d }
+made_of (Err why) = closed_by why
 
 -- a good sheet, and at most 2 ^ 30 bytes of memory for pictures and as many for captions: a device with a copy of the sheet
 unfoldable pub opened_of : List ℕ → ℕ → ℕ → Opened

@@ -1,5 +1,6 @@
 // G_FMT, S_FMT and TRY_FMT, by the type that an argument names: pictures have a format, captions have services.
 ghost use Rattle.std.specs.Prelude.{◌≡◌, List, ℕ};
+ghost use Rattle.ioctl_table.specs.Refusal.{number_of};
 ghost use Rattle.ioctl_table.specs.declared.table.Call.TheVariants.{GFmt, SFmt, TryFmt};
 ghost use Rattle.device_state.specs.Setup.{setup_in};
 ghost use Rattle.device_state.specs.State.{State, with_settings};
@@ -11,18 +12,24 @@ use ioctl_table::Refusal;
 use service_rules::Lines;
 
 // The format, or the services, in force.
-pub(crate) fn g_fmt(setup: &SetupWords, services: &Lines, argument: &mut [u8]) -> u32
-    ensures { (s : List ℕ) (d : State) → answer result (with_settings d (setup_in setup.now) services.now) argument.new
+pub(crate) fn g_fmt(
+    setup: &SetupWords,
+    services: &Lines,
+    argument: &mut [u8],
+) -> Result<(), Refusal>
+    ensures { (s : List ℕ) (d : State) → answer (number_of result) (with_settings d (setup_in setup.now) services.now) argument.new
         ≡ call_answer GFmt s (with_settings d (setup_in setup.now) services.now) argument.old }
 {
     let kind = wire_read::word_at(argument, 0);
     if kind == PICTURES {
-        return format_calls::g_fmt(setup, argument);
+        format_calls::g_fmt(setup, argument);
+        return Ok(());
     }
     if kind == CAPTIONS {
-        return service_calls::g_fmt(services, CAPTIONS, argument);
+        service_calls::g_fmt(services, CAPTIONS, argument);
+        return Ok(());
     }
-    ioctl_table::errno(Refusal::WrongType)
+    Err(Refusal::WrongType)
 }
 
 // Another format, or other services, while that stream has no buffers; so many are granted to pictures and to captions.
@@ -33,8 +40,8 @@ pub(crate) fn s_fmt(
     pictures: u64,
     captions: u64,
     argument: &mut [u8],
-) -> u32
-    ensures { (d : State) → d.video.queues.granted ≡ pictures → d.captions.queues.granted ≡ captions → answer result (with_settings d (setup_in setup.new) services.new) argument.new
+) -> Result<(), Refusal>
+    ensures { (d : State) → d.video.queues.granted ≡ pictures → d.captions.queues.granted ≡ captions → answer (number_of result) (with_settings d (setup_in setup.new) services.new) argument.new
         ≡ call_answer SFmt sheet.now (with_settings d (setup_in setup.old) services.old) argument.old }
 {
     let kind = wire_read::word_at(argument, 0);
@@ -44,19 +51,21 @@ pub(crate) fn s_fmt(
     if kind == CAPTIONS {
         return service_calls::s_fmt(services, CAPTIONS, captions, argument);
     }
-    ioctl_table::errno(Refusal::WrongType)
+    Err(Refusal::WrongType)
 }
 
 // What S_FMT would set.
-pub(crate) fn try_fmt(sheet: &[u8], argument: &mut [u8]) -> u32
-    ensures { (d : State) → answer result d argument.new ≡ call_answer TryFmt sheet.now d argument.old }
+pub(crate) fn try_fmt(sheet: &[u8], argument: &mut [u8]) -> Result<(), Refusal>
+    ensures { (d : State) → answer (number_of result) d argument.new ≡ call_answer TryFmt sheet.now d argument.old }
 {
     let kind = wire_read::word_at(argument, 0);
     if kind == PICTURES {
-        return negotiation_calls::try_fmt(sheet, argument);
+        negotiation_calls::try_fmt(sheet, argument);
+        return Ok(());
     }
     if kind == CAPTIONS {
-        return service_calls::try_fmt(CAPTIONS, argument);
+        service_calls::try_fmt(CAPTIONS, argument);
+        return Ok(());
     }
-    ioctl_table::errno(Refusal::WrongType)
+    Err(Refusal::WrongType)
 }

@@ -2,10 +2,12 @@
 #![tactic(auto)]
 
 ghost use Rattle.std.specs.Prelude.{◌≡◌};
+ghost use Rattle.request_topics.specs.declared.About.TheVariants.{Settings};
+ghost use Rattle.ioctl_table.specs.Refusal.{number_of};
 ghost use Rattle.device_state.specs.Setup.{setup_in};
 ghost use Rattle.device_state.specs.State.{State, with_settings};
 ghost use Rattle.device_state.specs.Answers.{answer};
-ghost use Rattle.request_topics.specs.Request.{on_topic, settings};
+ghost use Rattle.request_topics.specs.Request.{on_topic};
 
 mod by_type;
 
@@ -23,65 +25,48 @@ pub fn setting_request(
     pictures: u64,
     captions: u64,
     argument: &mut [u8],
-) -> u32
-    ensures { (d : State) → d.video.queues.granted ≡ pictures → d.captions.queues.granted ≡ captions → answer result (with_settings d (setup_in setup.new) services.new) argument.new
-        ≡ on_topic settings call sheet.now (with_settings d (setup_in setup.old) services.old) argument.old }
+) -> Result<(), Refusal>
+    ensures { (d : State) → d.video.queues.granted ≡ pictures → d.captions.queues.granted ≡ captions → answer (number_of result) (with_settings d (setup_in setup.new) services.new) argument.new
+        ≡ on_topic Settings call sheet.now (with_settings d (setup_in setup.old) services.old) argument.old }
 {
     match call {
         Call::Querycap => {
-            if argument.len() != 104 {
-                return request_topics::WRONG_LENGTH;
-            }
-            format_calls::querycap(sheet, argument)
+            request_topics::of_length(argument, 104)?;
+            format_calls::querycap(sheet, argument);
+            Ok(())
         }
         Call::EnumFmt => {
-            if argument.len() != 64 {
-                return request_topics::WRONG_LENGTH;
-            }
+            request_topics::of_length(argument, 64)?;
             format_calls::enum_fmt(sheet, argument)
         }
         Call::GFmt => {
-            if argument.len() != 204 {
-                return request_topics::WRONG_LENGTH;
-            }
+            request_topics::of_length(argument, 204)?;
             by_type::g_fmt(setup, services, argument)
         }
         Call::SFmt => {
-            if argument.len() != 204 {
-                return request_topics::WRONG_LENGTH;
-            }
+            request_topics::of_length(argument, 204)?;
             by_type::s_fmt(sheet, setup, services, pictures, captions, argument)
         }
         Call::TryFmt => {
-            if argument.len() != 204 {
-                return request_topics::WRONG_LENGTH;
-            }
+            request_topics::of_length(argument, 204)?;
             by_type::try_fmt(sheet, argument)
         }
         Call::Cropcap => {
-            if argument.len() != 44 {
-                return request_topics::WRONG_LENGTH;
-            }
+            request_topics::of_length(argument, 44)?;
             crop_calls::cropcap(sheet, argument)
         }
         Call::GCrop => {
-            if argument.len() != 20 {
-                return request_topics::WRONG_LENGTH;
-            }
+            request_topics::of_length(argument, 20)?;
             crop_calls::g_crop(setup, argument)
         }
         Call::SCrop => {
-            if argument.len() != 20 {
-                return request_topics::WRONG_LENGTH;
-            }
+            request_topics::of_length(argument, 20)?;
             crop_calls::s_crop(sheet, setup, argument)
         }
         Call::GSlicedVbiCap => {
-            if argument.len() != 116 {
-                return request_topics::WRONG_LENGTH;
-            }
+            request_topics::of_length(argument, 116)?;
             service_calls::g_sliced_vbi_cap(argument)
         }
-        _ => ioctl_table::errno(Refusal::UnknownWord),
+        _ => Err(Refusal::UnknownWord),
     }
 }

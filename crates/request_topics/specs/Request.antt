@@ -1,9 +1,11 @@
 -- What a request answers. The checks run in this order: closed, word, argument length, then those of the call.
-use Rattle.std.specs.Prelude.{ℕ, cond, not, List, eqb, length}
+use Rattle.std.specs.Prelude.{ℕ, Bool, true, false, cond, not, List, eqb, length, Option, Some, None}
 use Rattle.ioctl_table.specs.Table.{argument_size, request_of}
 use Rattle.ioctl_table.specs.declared.table.Call.{Call}
 use Rattle.ioctl_table.specs.declared.table.Call.TheVariants.{Unknown, Querycap, EnumFmt, GFmt, SFmt, TryFmt, Reqbufs, Querybuf, Qbuf, Dqbuf, Streamon, Streamoff, GCtrl, SCtrl, Queryctrl, Cropcap, GCrop, SCrop, GSlicedVbiCap}
 use Rattle.ioctl_table.specs.declared.refusals.Refusal.TheVariants.{ArgumentLength, Closed, UnknownWord}
+use Rattle.request_topics.specs.declared.About.{About}
+use Rattle.request_topics.specs.declared.About.TheVariants.{Settings, Streams, Controls}
 use Rattle.stream_words.specs.Stream.{Stream}
 use Rattle.device_state.specs.State.{State, with_video, with_captions, with_services}
 use Rattle.device_state.specs.Answers.{Answer, answer, refused, by_type}
@@ -70,38 +72,43 @@ request_answer s d w a =
     (cond (not (eqb (length a) (request_of w).size)) (refused ArgumentLength d a)
     (call_answer (request_of w).call s d a)))
 
--- the topics: the device with its formats, services and crop; the streams; the controls
-abbrev pub settings : ℕ
-settings = 1
+-- what a call is about, where its word is known: the device with its formats, services and crop; the streams; the controls
+abbrev pub topic_of : Call → Option About
+topic_of Unknown = None
+topic_of Querycap = Some Settings
+topic_of EnumFmt = Some Settings
+topic_of GFmt = Some Settings
+topic_of SFmt = Some Settings
+topic_of TryFmt = Some Settings
+topic_of Reqbufs = Some Streams
+topic_of Querybuf = Some Streams
+topic_of Qbuf = Some Streams
+topic_of Dqbuf = Some Streams
+topic_of Streamon = Some Streams
+topic_of Streamoff = Some Streams
+topic_of GCtrl = Some Controls
+topic_of SCtrl = Some Controls
+topic_of Queryctrl = Some Controls
+topic_of Cropcap = Some Settings
+topic_of GCrop = Some Settings
+topic_of SCrop = Some Settings
+topic_of GSlicedVbiCap = Some Settings
 
-abbrev pub streams : ℕ
-streams = 2
-
-abbrev pub controls : ℕ
-controls = 3
-
--- what a call is about
-abbrev pub topic_of : Call → ℕ
-topic_of Unknown = 0
-topic_of Querycap = settings
-topic_of EnumFmt = settings
-topic_of GFmt = settings
-topic_of SFmt = settings
-topic_of TryFmt = settings
-topic_of Reqbufs = streams
-topic_of Querybuf = streams
-topic_of Qbuf = streams
-topic_of Dqbuf = streams
-topic_of Streamon = streams
-topic_of Streamoff = streams
-topic_of GCtrl = controls
-topic_of SCtrl = controls
-topic_of Queryctrl = controls
-topic_of Cropcap = settings
-topic_of GCrop = settings
-topic_of SCrop = settings
-topic_of GSlicedVbiCap = settings
+-- whether what a call is about is this topic
+abbrev pub is_about : About → Option About → Bool
+is_about Settings (Some Settings) = true
+is_about Settings (Some Streams) = false
+is_about Settings (Some Controls) = false
+is_about Settings None = false
+is_about Streams (Some Settings) = false
+is_about Streams (Some Streams) = true
+is_about Streams (Some Controls) = false
+is_about Streams None = false
+is_about Controls (Some Settings) = false
+is_about Controls (Some Streams) = false
+is_about Controls (Some Controls) = true
+is_about Controls None = false
 
 -- what the calls about one topic answer with any argument; any other call is unknown there
-unfoldable pub on_topic : ℕ → Call → List ℕ → State → List ℕ → Answer
-on_topic t c s d a = cond (eqb (topic_of c) t) (checked_answer c s d a) (refused UnknownWord d a)
+unfoldable pub on_topic : About → Call → List ℕ → State → List ℕ → Answer
+on_topic t c s d a = cond (is_about t (topic_of c)) (checked_answer c s d a) (refused UnknownWord d a)

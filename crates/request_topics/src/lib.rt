@@ -1,44 +1,55 @@
-// What each call answers (specs/Request.antt), and what it is about.
+// What each call answers (specs/Request.antt), what it is about, and how long its argument is.
 #![tactic(auto)]
 
-ghost use Rattle.std.specs.Prelude.{◌≡◌};
+ghost use Rattle.std.specs.Prelude.{◌≡◌, length, OkIff, IfErr};
+ghost use Rattle.ioctl_table.specs.declared.refusals.Refusal.TheVariants.{ArgumentLength};
 ghost use Rattle.request_topics.specs.Request.{topic_of};
 
-use ioctl_table::Call;
+use ioctl_table::{Call, Refusal};
 
 // The topics: the device with its formats, services and crop; the streams; the controls.
-pub const SETTINGS: u32 = 1;
+#[derive(Clone, Copy)]
+pub enum About {
+    Settings,
+    Streams,
+    Controls,
+}
 
-pub const STREAMS: u32 = 2;
-
-pub const CONTROLS: u32 = 3;
-
-// What each topic gives to an argument of another length than the call's: the number of `ArgumentLength`.
-pub const WRONG_LENGTH: u32 = 14;
-
-// The topic of a call.
-pub fn topic(call: Call) -> u32
+// The topic of a call; an unknown word has none.
+pub fn topic(call: Call) -> Option<About>
     ensures { result ≡ topic_of call }
 {
     match call {
-        Call::Unknown => 0,
-        Call::Querycap => SETTINGS,
-        Call::EnumFmt => SETTINGS,
-        Call::GFmt => SETTINGS,
-        Call::SFmt => SETTINGS,
-        Call::TryFmt => SETTINGS,
-        Call::Reqbufs => STREAMS,
-        Call::Querybuf => STREAMS,
-        Call::Qbuf => STREAMS,
-        Call::Dqbuf => STREAMS,
-        Call::Streamon => STREAMS,
-        Call::Streamoff => STREAMS,
-        Call::GCtrl => CONTROLS,
-        Call::SCtrl => CONTROLS,
-        Call::Queryctrl => CONTROLS,
-        Call::Cropcap => SETTINGS,
-        Call::GCrop => SETTINGS,
-        Call::SCrop => SETTINGS,
-        Call::GSlicedVbiCap => SETTINGS,
+        Call::Unknown => None,
+        Call::Querycap => Some(About::Settings),
+        Call::EnumFmt => Some(About::Settings),
+        Call::GFmt => Some(About::Settings),
+        Call::SFmt => Some(About::Settings),
+        Call::TryFmt => Some(About::Settings),
+        Call::Reqbufs => Some(About::Streams),
+        Call::Querybuf => Some(About::Streams),
+        Call::Qbuf => Some(About::Streams),
+        Call::Dqbuf => Some(About::Streams),
+        Call::Streamon => Some(About::Streams),
+        Call::Streamoff => Some(About::Streams),
+        Call::GCtrl => Some(About::Controls),
+        Call::SCtrl => Some(About::Controls),
+        Call::Queryctrl => Some(About::Controls),
+        Call::Cropcap => Some(About::Settings),
+        Call::GCrop => Some(About::Settings),
+        Call::SCrop => Some(About::Settings),
+        Call::GSlicedVbiCap => Some(About::Settings),
     }
+}
+
+// An argument has the length of its call, or is refused. Each call hands in a number of its own, for speed: the compiler then knows the length in all
+// that the call reads and writes.
+pub fn of_length(argument: &[u8], n: usize) -> Result<(), Refusal>
+    ensures of_length { OkIff result (length argument.now ≡ n) tt }
+    ensures refused { IfErr result (λ why. why ≡ ArgumentLength) }
+{
+    if argument.len() != n {
+        return Err(Refusal::ArgumentLength);
+    }
+    Ok(())
 }
