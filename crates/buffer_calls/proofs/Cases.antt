@@ -5,7 +5,7 @@ use mathlib.Core.List.{List}
 use Prim.Native.Nat.{ℕ}
 use lib.Dec.{eqb}
 use borrow.Author.Tests.{eq-eqb, ne_eqb}
-use Rattle.stream_run.specs.declared.Reply.{Reply}
+use Rattle.stream_run.specs.Replies.{Reply}
 use Rattle.stream_words.specs.Stream.{Stream}
 use Rattle.stream_run.specs.Switches.{Step, answers}
 use Rattle.stream_run.specs.Numbers.{reply_number}

@@ -1,16 +1,16 @@
 -- What the requests about the buffers of one stream answer; here REQBUFS and QUERYBUF.
-use Rattle.std.specs.Prelude.{ℕ, cond, not, List, eqb}
+use Rattle.std.specs.Prelude.{ℕ, cond, not, List, eqb, Result, Ok, Err}
 use Rattle.std.proofs.lemmas.List.Edits.{sets}
 use Rattle.wire_read.specs.Words.{word_at}
 use Rattle.ioctl_table.specs.Refusal.{errno_of}
+use Rattle.ioctl_table.specs.declared.refusals.Refusal.{Refusal}
 use Rattle.ioctl_table.specs.declared.refusals.Refusal.TheVariants.{WrongMemory}
 use Rattle.stream_words.specs.Stream.{Stream}
-use Rattle.stream_run.specs.declared.Reply.{Reply}
-use Rattle.stream_run.specs.declared.Reply.TheVariants.{Done, Granted, Returned, Refused}
+use Rattle.stream_run.specs.Replies.{Reply}
+use Rattle.stream_run.specs.Replies.Reply.{Done, Granted, Returned, Refused}
 use Rattle.stream_run.specs.Switches.{Step, request_buffers_of}
 use Rattle.stream_run.specs.Numbers.{reply_number}
-use Rattle.stream_status.specs.declared.Queried.{Queried}
-use Rattle.stream_status.specs.declared.Queried.TheVariants as queries
+use Rattle.stream_status.specs.declared.Status.{Status}
 use Rattle.stream_status.specs.Buffer.{query_of}
 use Rattle.buffer_replies.specs.Replies.{buffers_reply, buffer_reply}
 
@@ -42,9 +42,9 @@ unfoldable pub reqbufs_of : Stream → ℕ → ℕ → List ℕ → StreamAnswer
 reqbufs_of s kind size a = of_memory 8 s a (stepped (request_buffers_of s (word_at a 0) size) (request_reply (request_buffers_of s (word_at a 0) size).reply kind a))
 
 -- QUERYBUF: an index that is there
-abbrev pub queried_as : Queried → Stream → ℕ → List ℕ → StreamAnswer
-queried_as (queries.Buffer b) s kind a = stream_answer 0 s (sets a 0 (buffer_reply kind b))
-queried_as (queries.Refused why) s kind a = stream_answer (errno_of why) s a
+abbrev pub queried_as : Result Status Refusal → Stream → ℕ → List ℕ → StreamAnswer
+queried_as (Ok b) s kind a = stream_answer 0 s (sets a 0 (buffer_reply kind b))
+queried_as (Err why) s kind a = stream_answer (errno_of why) s a
 
 unfoldable pub querybuf_of : Stream → ℕ → ℕ → List ℕ → StreamAnswer
 querybuf_of s kind size a = queried_as (query_of s (word_at a 0) size) s kind a

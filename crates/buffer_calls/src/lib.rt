@@ -7,8 +7,6 @@ ghost use Rattle.stream_words.specs.Words.{stream_in};
 ghost use Rattle.buffer_calls.specs.Buffers.{stream_answer, reqbufs_of, querybuf_of};
 
 use ioctl_table::Refusal;
-use stream_run::Reply;
-use stream_status::Queried;
 use stream_words::Words;
 
 // Buffers are asked for, or freed.
@@ -20,13 +18,11 @@ pub fn reqbufs(s: &mut Words, kind: u32, size: u32, argument: &mut [u8]) -> u32
     }
     let count = wire_read::word_at(argument, 0);
     match stream_run::request_buffers(s, count, size) {
-        Reply::Granted(n) => {
+        Ok(n) => {
             buffer_replies::put_buffers(argument, kind, n);
             0
         }
-        Reply::Refused(why) => ioctl_table::errno(why),
-        Reply::Done => 0,
-        Reply::Returned(_) => 0,
+        Err(why) => ioctl_table::errno(why),
     }
 }
 
@@ -36,10 +32,10 @@ pub fn querybuf(s: &Words, kind: u32, size: u32, argument: &mut [u8]) -> u32
 {
     let k = wire_read::word_at(argument, 0);
     match stream_status::query(s, k, size) {
-        Queried::Buffer(b) => {
+        Ok(b) => {
             buffer_replies::put_buffer(argument, kind, b);
             0
         }
-        Queried::Refused(why) => ioctl_table::errno(why),
+        Err(why) => ioctl_table::errno(why),
     }
 }

@@ -44,7 +44,7 @@ use Rattle.stream_words.specs.Stream.{Stream, on_queues}
 use Rattle.stream_words.specs.Moves.{is_incoming, is_outgoing, pushed}
 use Rattle.stream_run.specs.Switches.{Step, answers, refuses}
 use Rattle.stream_queue.specs.Queueing.{enqueue_of}
-use Rattle.stream_run.specs.declared.Reply.TheVariants as replies
+use Rattle.stream_run.specs.Replies.{Reply as replies}
 use Rattle.stream_status.specs.declared.Status.{Status}
 use Rattle.stream_status.specs.Buffer.{status_of, returned_of}
 use Rattle.format_replies.specs.Replies.{capability_reply, description_reply}

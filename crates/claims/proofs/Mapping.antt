@@ -13,8 +13,8 @@ use Rattle.stream_slots.specs.Slot.{is_slot, buffer_at}
 use Rattle.stream_words.specs.Stream.{Stream}
 use Rattle.stream_maps.specs.declared.Change.{Change}
 use Rattle.stream_maps.specs.Maps.{maps_of, blocked, why_not}
-use Rattle.stream_run.specs.declared.Reply.{Reply as StreamReply}
-use Rattle.stream_run.specs.declared.Reply.TheVariants as replies
+use Rattle.stream_run.specs.Replies.{Reply as StreamReply}
+use Rattle.stream_run.specs.Replies.{Reply as replies}
 use Rattle.stream_run.specs.Numbers.{reply_number}
 use Rattle.stream_run.specs.Switches.{Step}
 use Rattle.stream_mmap.specs.Mapping.{change_of}

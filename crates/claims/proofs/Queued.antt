@@ -22,7 +22,7 @@ use Rattle.stream_arrival.specs.declared.Arrival.TheVariants.{Refused, Stored}
 use Rattle.stream_arrival.specs.Arrivals.{written_by}
 use Rattle.stream_maps.specs.Maps.{is_mapped}
 use Rattle.stream_status.specs.declared.Status.{Status}
-use Rattle.stream_status.specs.declared.Queried.TheVariants as queries
+use Rattle.std.specs.Prelude.{Ok, Err}
 use Rattle.stream_verdict.specs.declared.Verdict.TheVariants.{Running, Blank, Gaps, Complete}
 use Rattle.stream_status.specs.Buffer.{flags_of, described_of, status_of, query_of}
 use Rattle.buffer_replies.specs.Replies.{buffer_reply}
@@ -71,7 +71,7 @@ querybuf_answers x kind size a l = go (leb x.queues.granted (word_at a 0))
     st = status_of x (word_at a 0) size
 
     r : Bool → StreamAnswer
-    r y = queried_as (cond y (queries.Refused NoSuchIndex) (queries.Buffer (status_of x (word_at a 0) size))) x kind a
+    r y = queried_as (cond y (Err NoSuchIndex) (Ok (status_of x (word_at a 0) size))) x kind a
 
     go : (y : Bool) → (r y).number ≡ 0 → (r y).argument ≡ buffer_reply kind (status_of x (word_at a 0) size)
     go true h = absurd (omega (arith, h))

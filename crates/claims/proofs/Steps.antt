@@ -28,20 +28,18 @@ use Rattle.negotiation_rules.proofs.Reply.{reply_length, reply_word}
 use Rattle.stream_words.specs.declared.Time.{Time}
 use Rattle.stream_words.specs.declared.Filled.{Filled}
 use Rattle.stream_maps.specs.Maps.{any_mapped}
-use Rattle.stream_run.specs.declared.Reply.{Reply as StreamReply}
-use Rattle.stream_run.specs.declared.Reply.TheVariants as replies
+use Rattle.stream_run.specs.Replies.{Reply as StreamReply}
+use Rattle.stream_run.specs.Replies.{Reply as replies}
 use Rattle.stream_run.specs.Switches.{Step}
 use Rattle.stream_words.specs.Stream.{Stream}
 use Rattle.stream_run.specs.Stream.{reduced, streaming, stopped}
 use Rattle.stream_run.specs.Switches.{answers, refuses, grant_of, request_buffers_of as bufferRequest, start_of, stop_of}
-use Rattle.stream_words.specs.declared.Oldest.{Oldest}
-use Rattle.stream_words.specs.declared.Oldest.TheVariants.{Empty, Frame}
+use Rattle.std.specs.Prelude.{Option, Some, None, Result, Ok, Err}
 use Rattle.stream_words.specs.Moves.{oldest_of}
 use Rattle.stream_queue.specs.Queueing.{enqueue_of, handed_over, dequeue_of}
 use Rattle.stream_run.specs.Numbers.{reply_number}
 use Rattle.stream_run.proofs.Grants.{grant_few}
-use Rattle.stream_status.specs.declared.Queried.{Queried}
-use Rattle.stream_status.specs.declared.Queried.TheVariants as queries
+use Rattle.stream_status.specs.declared.Status.{Status}
 use Rattle.stream_status.specs.Buffer.{query_of, returned_of}
 use Rattle.sheet_contents.specs.Contents.{format_count}
 use Rattle.control_place_rules.specs.Find.{present, queried_place}
@@ -173,11 +171,11 @@ dequeue_maps : (s : Stream) → (dequeue_of s).stream.maps ≡ s.maps
 unfolding dequeue_of
 dequeue_maps s = by (eqb s.queues.granted 0) (not (streaming s)) (oldest_of s.queues.outgoing)
   where
-    by : (x y : Bool) (o : Oldest) → (cond x (refuses NoBuffers s) (cond y (refuses NotStreaming s) (handed_over o s))).stream.maps ≡ s.maps
+    by : (x y : Bool) (o : Option Filled) → (cond x (refuses NoBuffers s) (cond y (refuses NotStreaming s) (handed_over o s))).stream.maps ≡ s.maps
     by true y o = refl
     by false true o = refl
-    by false false Empty = refl
-    by false false (Frame f) = refl
+    by false false None = refl
+    by false false (Some f) = refl
 
 -- what a stream's answer makes of the device
 module _ (b : Box) (r : StreamAnswer) where
@@ -479,14 +477,14 @@ module _ (k : Kind) (b : Box) (p : Paper) (a : List ℕ) (safe : Safe k b p) whe
   same_state : (call : Asked) (v : List ℕ) → request_told k p call a v ≡ idle → Does k b p call a (done b.state v)
   same_state call v t = still k b p a safe call b.state v safe.ready safe.sized refl t
 
-  does_queried : (x : Queried) → Does k b p Querybuf a (by_kind k b.state (queried_as x (stream_of k b.state) (type_of k) a))
+  does_queried : (x : Result Status Refusal) → Does k b p Querybuf a (by_kind k b.state (queried_as x (stream_of k b.state) (type_of k) a))
   does_queried x = go k safe x
     where
-      go : (j : Kind) → Safe j b p → (x : Queried) → Does j b p Querybuf a (by_kind j b.state (queried_as x (stream_of j b.state) (type_of j) a))
-      go Kind.pictures z (queries.Buffer i) = still Kind.pictures b p a z Querybuf b.state _ z.ready z.sized refl refl
-      go Kind.pictures z (queries.Refused why) = refuses_for Kind.pictures b p Querybuf a z why
-      go Kind.captions z (queries.Buffer i) = still Kind.captions b p a z Querybuf b.state _ z.ready z.sized refl refl
-      go Kind.captions z (queries.Refused why) = refuses_for Kind.captions b p Querybuf a z why
+      go : (j : Kind) → Safe j b p → (x : Result Status Refusal) → Does j b p Querybuf a (by_kind j b.state (queried_as x (stream_of j b.state) (type_of j) a))
+      go Kind.pictures z (Ok i) = still Kind.pictures b p a z Querybuf b.state _ z.ready z.sized refl refl
+      go Kind.pictures z (Err why) = refuses_for Kind.pictures b p Querybuf a z why
+      go Kind.captions z (Ok i) = still Kind.captions b p a z Querybuf b.state _ z.ready z.sized refl refl
+      go Kind.captions z (Err why) = refuses_for Kind.captions b p Querybuf a z why
 
   does_read : (x : Reading) (id : ℕ) → Does k b p GCtrl a (read_as x id b.state a)
   does_read (reads.Value v) id = same_state GCtrl _ refl

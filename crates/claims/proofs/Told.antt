@@ -26,7 +26,7 @@ use Rattle.stream_maps.specs.declared.Change.{Change}
 use Rattle.stream_maps.specs.Maps.{any_mapped}
 use Rattle.stream_run.specs.Stream.{streaming, stopped}
 use Rattle.stream_run.specs.Switches.{Step, grant_of, refuses, answers, request_buffers_of as bufferRequest}
-use Rattle.stream_run.specs.declared.Reply.TheVariants as replies
+use Rattle.stream_run.specs.Replies.{Reply as replies}
 use Rattle.stream_run.proofs.Grants.{grant_few}
 use Rattle.stream_arrival.specs.declared.Arrival.{Arrival}
 use Rattle.buffer_replies.specs.Replies.{buffers_reply}

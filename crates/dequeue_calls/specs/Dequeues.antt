@@ -2,8 +2,8 @@
 use Rattle.std.specs.Prelude.{ℕ, List}
 use Rattle.std.proofs.lemmas.List.Edits.{sets}
 use Rattle.stream_words.specs.Stream.{Stream}
-use Rattle.stream_run.specs.declared.Reply.{Reply}
-use Rattle.stream_run.specs.declared.Reply.TheVariants.{Done, Granted, Returned, Refused}
+use Rattle.stream_run.specs.Replies.{Reply}
+use Rattle.stream_run.specs.Replies.Reply.{Done, Granted, Returned, Refused}
 use Rattle.stream_queue.specs.Queueing.{dequeue_of}
 use Rattle.stream_status.specs.Buffer.{returned_of}
 use Rattle.buffer_replies.specs.Replies.{buffer_reply}

@@ -8,7 +8,6 @@ ghost use Rattle.buffer_calls.specs.Buffers.{stream_answer};
 ghost use Rattle.dequeue_calls.specs.Dequeues.{dqbuf_of};
 
 use ioctl_table::Refusal;
-use stream_run::Reply;
 use stream_words::Words;
 
 // The oldest filled buffer is handed over.
@@ -19,12 +18,10 @@ pub fn dqbuf(s: &mut Words, kind: u32, size: u32, argument: &mut [u8]) -> u32
         return ioctl_table::errno(Refusal::WrongMemory);
     }
     match stream_queue::dequeue(s) {
-        Reply::Returned(f) => {
+        Ok(f) => {
             buffer_replies::put_buffer(argument, kind, stream_status::returned(s, f, size));
             0
         }
-        Reply::Refused(why) => ioctl_table::errno(why),
-        Reply::Done => 0,
-        Reply::Granted(_) => 0,
+        Err(why) => ioctl_table::errno(why),
     }
 }

@@ -8,7 +8,6 @@ ghost use Rattle.buffer_calls.specs.Buffers.{stream_answer};
 ghost use Rattle.queue_calls.specs.Queues.{qbuf_of};
 
 use ioctl_table::Refusal;
-use stream_run::Reply;
 use stream_words::Words;
 
 // A buffer is handed in.
@@ -21,12 +20,10 @@ pub fn qbuf(s: &mut Words, kind: u32, size: u32, argument: &mut [u8]) -> u32
     let k = wire_read::word_at(argument, 0);
     let room = stream_line::has_room(s);
     match stream_queue::enqueue(s, k) {
-        Reply::Done => {
+        Ok(()) => {
             buffer_replies::put_buffer(argument, kind, stream_status::queued(s, k, room, size));
             0
         }
-        Reply::Refused(why) => ioctl_table::errno(why),
-        Reply::Granted(_) => 0,
-        Reply::Returned(_) => 0,
+        Err(why) => ioctl_table::errno(why),
     }
 }

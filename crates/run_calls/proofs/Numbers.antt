@@ -18,7 +18,7 @@ use Rattle.stream_run.specs.Stream.{streaming}
 use Rattle.stream_run.specs.Switches.{Step, request_buffers_of, start_of, stop_of}
 use Rattle.stream_queue.specs.Queueing.{handed_over, enqueue_of, dequeue_of}
 use Rattle.stream_run.specs.Numbers.{reply_number}
-use Rattle.stream_status.specs.declared.Queried.TheVariants as queries
+use Rattle.std.specs.Prelude.{Ok, Err}
 use Rattle.stream_status.specs.Buffer.{status_of, query_of}
 use Rattle.buffer_calls.specs.Buffers.{StreamAnswer, stream_answer, queried_as, reqbufs_of, querybuf_of}
 use Rattle.queue_calls.specs.Queues.{qbuf_of}
@@ -47,7 +47,7 @@ module _ (s : Stream) (kind size : ℕ) (a : List ℕ) where
   unfolding querybuf_of query_of
   querybuf_number = go (leb s.queues.granted (word_at a 0))
     where
-      go : (x : Bool) → (queried_as (cond x (queries.Refused NoSuchIndex) (queries.Buffer (status_of s (word_at a 0) size))) s kind a).number ≡ cond x 22 0
+      go : (x : Bool) → (queried_as (cond x (Err NoSuchIndex) (Ok (status_of s (word_at a 0) size))) s kind a).number ≡ cond x 22 0
       go true = refl
       go false = refl
 

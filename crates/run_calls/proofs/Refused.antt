@@ -14,12 +14,13 @@ use Rattle.stream_words.specs.declared.Filled.{Filled}
 use Rattle.stream_words.specs.Stream.{Stream}
 use Rattle.stream_words.specs.Moves.{is_incoming, is_outgoing, oldest_of}
 use Rattle.stream_maps.specs.Maps.{any_mapped}
-use Rattle.stream_run.specs.declared.Reply.TheVariants.{Done, Granted}
+use Rattle.stream_run.specs.Replies.Reply.{Done, Granted}
 use Rattle.stream_run.specs.Stream.{streaming}
 use Rattle.stream_run.specs.Switches.{Step, answers, refuses, request_buffers_of, start_of, stop_of}
 use Rattle.stream_queue.specs.Queueing.{handed_over, enqueue_of, dequeue_of}
-use Rattle.stream_status.specs.declared.Queried.{Queried}
-use Rattle.stream_status.specs.declared.Queried.TheVariants as queries
+use Rattle.std.specs.Prelude.{Result, Ok, Err}
+use Rattle.ioctl_table.specs.declared.refusals.Refusal.{Refusal}
+use Rattle.stream_status.specs.declared.Status.{Status}
 use Rattle.stream_status.specs.Buffer.{status_of, query_of, returned_of}
 use Rattle.buffer_replies.specs.Replies.{buffers_reply, buffer_reply}
 use Rattle.buffer_calls.specs.Buffers.{StreamAnswer, stream_answer, stepped, request_reply, queried_as, reqbufs_of, querybuf_of}
@@ -63,9 +64,9 @@ module _ (s : Stream) (a : List ℕ) where
     unfolding querybuf_of
     querybuf_honest = go (query_of s (word_at a 0) size)
       where
-        go : (x : Queried) → HonestStream s a (queried_as x s kind a)
-        go (queries.Buffer b) = done_honest s (buffer_reply kind b)
-        go (queries.Refused why) = refused_honest (errno_of why)
+        go : (x : Result Status Refusal) → HonestStream s a (queried_as x s kind a)
+        go (Ok b) = done_honest s (buffer_reply kind b)
+        go (Err why) = refused_honest (errno_of why)
 
     pub qbuf_honest : HonestStream s a (qbuf_of s kind size a)
     unfolding qbuf_of enqueue_of

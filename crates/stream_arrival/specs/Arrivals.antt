@@ -1,10 +1,8 @@
 -- What becomes of an arrival. The checks run in this order: memory length, streaming, run limit, damage, a buffer.
-use Rattle.std.specs.Prelude.{ℕ, ◌+◌, ◌%◌, ◌^◌, Bool, cond, not, ◌&&◌, List, ◌==◌, nat_le}
+use Rattle.std.specs.Prelude.{ℕ, ◌+◌, ◌%◌, ◌^◌, Bool, cond, not, ◌&&◌, List, ◌==◌, nat_le, Option, Some, None}
 use Rattle.std.proofs.lemmas.List.Edits.{sets}
 use Rattle.ioctl_table.specs.declared.refusals.Refusal.TheVariants.{MemoryLength, RunFull}
 use Rattle.stream_words.specs.declared.Time.{Time}
-use Rattle.stream_words.specs.declared.Next.{Next}
-use Rattle.stream_words.specs.declared.Next.TheVariants.{Nobody, Index}
 use Rattle.stream_slots.specs.Slot.{slot_offset}
 use Rattle.stream_words.specs.Stream.{Run, Stream, with_run, on_queues}
 use Rattle.stream_words.specs.Moves.{next_of, filled_oldest}
@@ -48,9 +46,9 @@ abbrev pub arrived_as : Arrival → Stream → Arrived
 arrived_as a s = record { arrival = a; stream = s }
 
 -- stored in the buffer that has waited longest, or dropped if none waits
-abbrev pub placed_in : Next → Stream → ℕ → ℕ → Time → Arrived
-placed_in Nobody s number n time = arrived_as Dropped (with_run s (dropped_run s.run))
-placed_in (Index k) s number n time = arrived_as (Stored k number) (on_queues (λ q. filled_oldest q number n time) s)
+abbrev pub placed_in : Option ℕ → Stream → ℕ → ℕ → Time → Arrived
+placed_in None s number n time = arrived_as Dropped (with_run s (dropped_run s.run))
+placed_in (Some k) s number n time = arrived_as (Stored k number) (on_queues (λ q. filled_oldest q number n time) s)
 
 -- a whole frame of n bytes with its number, counted already
 unfoldable pub placed_of : Stream → ℕ → ℕ → Time → Arrived

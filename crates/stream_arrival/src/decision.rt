@@ -6,7 +6,7 @@ ghost use Rattle.stream_arrival.specs.Arrivals.{arrived_as, placed_of, accepted_
 
 use crate::Arrival;
 use ioctl_table::Refusal;
-use stream_words::{ACCEPTED, DAMAGED, DROPPED, LENGTH, NEXT_NUMBER, Next, STREAMING, Time, Words};
+use stream_words::{ACCEPTED, DAMAGED, DROPPED, LENGTH, NEXT_NUMBER, STREAMING, Time, Words};
 
 // How many arrivals a run can accept.
 const LIMIT: u64 = 9223372036854775807;
@@ -15,7 +15,7 @@ const LIMIT: u64 = 9223372036854775807;
 fn placed(s: &mut Words, number: u32, n: u32, time: Time) -> Arrival
     ensures { arrived_as result (stream_in s.new) ≡ placed_of (stream_in s.old) number n time }
 {
-    let Next::Index(k) = stream_line::oldest_incoming(s) else {
+    let Some(k) = stream_line::oldest_incoming(s) else {
         let _words: &[u64] = s;
         s[DROPPED] = std::num::wrapping_add_u64(s[DROPPED], 1);
         return Arrival::Dropped;

@@ -8,7 +8,7 @@ use lib.ListN.{length, take, drop}
 use Rattle.stream_words.specs.declared.Time.{Time}
 use Rattle.stream_words.specs.declared.Filled.{Filled}
 use Rattle.stream_slots.specs.Slot.{slot_offset}
-use Rattle.stream_run.specs.declared.Reply.TheVariants.{Done, Returned}
+use Rattle.stream_run.specs.Replies.Reply.{Done, Returned}
 use Rattle.stream_run.specs.Stream.{reduced}
 use Rattle.stream_run.specs.Switches.{request_buffers_of, start_of, stop_of}
 use Rattle.stream_queue.specs.Queueing.{enqueue_of, dequeue_of}

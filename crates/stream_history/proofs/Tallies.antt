@@ -11,8 +11,8 @@ use Rattle.stream_maps.specs.declared.Change.{Change}
 use Rattle.stream_maps.specs.declared.Change.TheVariants.{Map, Unmap}
 use Rattle.stream_maps.specs.Maps.{no_maps, maps_of, blocked, turned, moved}
 use Rattle.stream_maps.proofs.Counts.{none_mapped, opening_unmapped, moved_here, moved_other}
-use Rattle.stream_run.specs.declared.Reply.{Reply}
-use Rattle.stream_run.specs.declared.Reply.TheVariants.{Granted}
+use Rattle.stream_run.specs.Replies.{Reply}
+use Rattle.stream_run.specs.Replies.Reply.{Granted}
 use Rattle.stream_run.proofs.Grants.{granted_unmapped}
 use Rattle.stream_history.specs.Calls.{Answer, opened}
 use Rattle.stream_history.specs.Calls.Answer.{replied, arrived}

@@ -16,13 +16,13 @@ use Rattle.wire_read.proofs.Parts.{part_before, part_behind, part_stored}
 use Rattle.stream_words.specs.declared.Time.{Time}
 use Rattle.stream_words.specs.declared.Filled.{Filled}
 use Rattle.wire_read.specs.Lists.{any, rest}
-use Rattle.stream_slots.specs.declared.Slot.TheVariants.{NoBuffer, Buffer}
+use Rattle.std.specs.Prelude.{Some, None}
 use Rattle.stream_slots.specs.Slot.{slot_size, slot_offset, is_slot, buffer_at, slot_at}
 use Rattle.stream_words.specs.Stream.{Queues, with_run, with_maps, on_queues}
 use Rattle.stream_words.specs.Moves.{no_frame, of_buffer, is_incoming, is_outgoing, oldest_of, next_of, emptied, pushed, filled_oldest, popped}
 use Rattle.stream_slots.proofs.At.{slot_is}
 use Rattle.stream_slots.proofs.Slots.{slot_least, slots_apart}
-use Rattle.stream_run.specs.declared.Reply.TheVariants.{Done, Granted, Returned, Refused}
+use Rattle.stream_run.specs.Replies.Reply.{Done, Granted, Returned, Refused}
 use Rattle.stream_words.specs.Stream.{Run}
 use Rattle.stream_run.specs.Switches.{Step}
 use Rattle.stream_words.specs.Stream.{Stream}
@@ -368,8 +368,8 @@ follows_change w p c o l t s = go (is_slot (min w.stream.queues.granted 32) w.si
     }
 
     go : (a : Bool) → is_slot (min w.stream.queues.granted 32) w.size o l ≡ a
-        → Follows (with_stream w (changed_at c w.stream (cond a (Buffer (buffer_at w.size o)) NoBuffer)).stream) p (change c o l)
-        (replied (changed_at c w.stream (cond a (Buffer (buffer_at w.size o)) NoBuffer)).reply)
+        → Follows (with_stream w (changed_at c w.stream (cond a (Some (buffer_at w.size o)) None)).stream) p (change c o l)
+        (replied (changed_at c w.stream (cond a (Some (buffer_at w.size o)) None)).reply)
     go true e = known e (blocked c (maps_of w.stream.maps (buffer_at w.size o))) refl
     go false e = nothing w p (change c o l) (replied (Refused NoSuchBuffer)) t refl
 

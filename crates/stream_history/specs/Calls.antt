@@ -2,8 +2,8 @@
 use Rattle.std.specs.Prelude.{ℕ, Bool, cond, List, [], ◌∷◌, eqb, length}
 use Rattle.ioctl_table.specs.declared.refusals.Refusal.TheVariants.{BuffersExist}
 use Rattle.stream_words.specs.declared.Time.{Time}
-use Rattle.stream_run.specs.declared.Reply.{Reply}
-use Rattle.stream_run.specs.declared.Reply.TheVariants.{Done, Refused}
+use Rattle.stream_run.specs.Replies.{Reply}
+use Rattle.stream_run.specs.Replies.Reply.{Done, Refused}
 use Rattle.stream_words.specs.Stream.{Stream}
 use Rattle.stream_run.specs.Stream.{fresh_stream}
 use Rattle.stream_run.specs.Switches.{request_buffers_of, start_of, stop_of}

@@ -3,7 +3,7 @@ use Rattle.std.specs.Prelude.{◌≡◌, ℕ, ◌+◌, ◌*◌, ◌≤◌, ◌<�
 use Rattle.stream_words.specs.declared.Time.{Time}
 use Rattle.stream_words.specs.declared.Filled.{Filled}
 use Rattle.stream_slots.specs.Slot.{slot_offset}
-use Rattle.stream_run.specs.declared.Reply.TheVariants.{Done, Granted, Returned}
+use Rattle.stream_run.specs.Replies.Reply.{Done, Granted, Returned}
 use Rattle.stream_run.specs.Stream.{one_more, reduced, Numbered}
 use Rattle.stream_words.specs.Moves.{standing_of}
 use Rattle.stream_arrival.specs.declared.Arrival.TheVariants.{Stored}

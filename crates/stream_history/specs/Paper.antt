@@ -1,10 +1,10 @@
 -- The two queues on paper, the maps, and what became of the arrivals of the last run: told from the calls and their answers alone.
 use Rattle.std.specs.Prelude.{ℕ, zero, suc, ◌+◌, Bool, true, false, cond, ◌&&◌, List, [], ◌∷◌, ◌++◌, map, eqb, leb, length}
 use Rattle.stream_words.specs.declared.Time.{Time}
-use Rattle.stream_run.specs.declared.Reply.{Reply}
+use Rattle.stream_run.specs.Replies.{Reply}
 use Rattle.stream_words.specs.Stream.{Run}
 use Rattle.stream_run.specs.Stream.{fresh_run, stopped_run}
-use Rattle.stream_run.specs.declared.Reply.TheVariants as replies
+use Rattle.stream_run.specs.Replies.{Reply as replies}
 use Rattle.stream_slots.specs.Slot.{buffer_at}
 use Rattle.stream_maps.specs.declared.Change.{Change}
 use Rattle.stream_maps.specs.declared.Change.TheVariants.{Map, Unmap}

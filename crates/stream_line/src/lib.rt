@@ -5,27 +5,27 @@ ghost use Rattle.std.specs.Prelude.{◌≡◌, length};
 ghost use Rattle.stream_words.specs.Words.{stream_in};
 ghost use Rattle.stream_words.specs.Moves.{no_frame, has_room, oldest_of, next_of};
 
-use stream_words::{Filled, Next, Oldest, Time, Words};
+use stream_words::{Filled, Time, Words};
 
 // The oldest frame held, if there is one.
-pub fn oldest_outgoing(s: &Words) -> Oldest
+pub fn oldest_outgoing(s: &Words) -> Option<Filled>
     ensures { result ≡ oldest_of (stream_in s.now).queues.outgoing }
 {
     if stream_words::holding(s) == 0 {
-        return Oldest::Empty;
+        return None;
     }
-    Oldest::Frame(stream_frames::frame(s, 0))
+    Some(stream_frames::frame(s, 0))
 }
 
 // The buffer that has waited longest for a frame, if there is one.
-pub fn oldest_incoming(s: &Words) -> Next
+pub fn oldest_incoming(s: &Words) -> Option<u32>
     ensures { result ≡ next_of (stream_in s.now).queues.incoming }
 {
     let d = stream_words::holding(s);
     if stream_words::lined(s) <= d {
-        return Next::Nobody;
+        return None;
     }
-    Next::Index(stream_words::index(s, d))
+    Some(stream_words::index(s, d))
 }
 
 // How many frames are held.

@@ -5,12 +5,12 @@ use mathlib.Core.Bool.{Bool, true, false, cond, not}
 use Prim.Native.Nat.{ℕ, min}
 use Rattle.ioctl_table.specs.Refusal.{errno_of}
 use Rattle.ioctl_table.specs.declared.refusals.Refusal.TheVariants.{NoSuchBuffer}
-use Rattle.stream_slots.specs.declared.Slot.TheVariants.{NoBuffer, Buffer}
+use Rattle.std.specs.Prelude.{Some, None}
 use Rattle.stream_slots.specs.Slot.{is_slot, buffer_at, slot_at}
 use Rattle.stream_words.specs.Stream.{Stream, with_maps}
 use Rattle.stream_maps.specs.declared.Change.{Change}
 use Rattle.stream_maps.specs.Maps.{maps_of, blocked, why_not, moved}
-use Rattle.stream_run.specs.declared.Reply.TheVariants.{Done}
+use Rattle.stream_run.specs.Replies.Reply.{Done}
 use Rattle.stream_run.specs.Numbers.{reply_number}
 use Rattle.stream_run.specs.Switches.{Step, answers, refuses}
 use Rattle.stream_mmap.specs.Mapping.{changed_at, change_of}
@@ -24,7 +24,7 @@ module _ (c : Change) (s : Stream) (size offset length : ℕ) where
   unfolding change_of slot_at
   tested = by (is_slot (min s.queues.granted 32) size offset length)
     where
-      by : (x : Bool) → changed_at c s (cond x (Buffer (buffer_at size offset)) NoBuffer) ≡ by_tests x (blocked c (maps_of s.maps (buffer_at size offset)))
+      by : (x : Bool) → changed_at c s (cond x (Some (buffer_at size offset)) None) ≡ by_tests x (blocked c (maps_of s.maps (buffer_at size offset)))
       by true = refl
       by false = refl
 

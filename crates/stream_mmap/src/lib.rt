@@ -2,16 +2,14 @@
 // not given away meanwhile.
 #![tactic(auto)]
 
-ghost use Rattle.std.specs.Prelude.{◌≡◌, ◌<◌, min};
-ghost use Rattle.stream_slots.specs.declared.Slot.TheVariants.{Buffer};
+ghost use Rattle.std.specs.Prelude.{◌≡◌, ◌<◌, min, Some};
 ghost use Rattle.stream_words.specs.Words.{stream_in};
+ghost use Rattle.stream_run.specs.Replies.{done};
 ghost use Rattle.stream_run.specs.Switches.{answers};
 ghost use Rattle.stream_mmap.specs.Mapping.{changed_at, change_of};
 
 use ioctl_table::Refusal;
 use stream_maps::Change;
-use stream_run::Reply;
-use stream_slots::Slot;
 use stream_words::{GRANTED, MAPS, Words};
 
 // How many buffers can be mapped: those granted. There is a count for each of 32.
@@ -23,9 +21,9 @@ fn mappable(s: &Words) -> u64
 }
 
 // The count of buffer k goes up or down by one.
-fn turn(s: &mut Words, c: Change, k: u32) -> Reply
+fn turn(s: &mut Words, c: Change, k: u32) -> Result<(), Refusal>
     requires { k < 32 }
-    ensures { answers result (stream_in s.new) ≡ changed_at c (stream_in s.old) (Buffer k) }
+    ensures { answers (done result) (stream_in s.new) ≡ changed_at c (stream_in s.old) (Some k) }
 {
     let _words: &[u64] = s;
     let at = MAPS + k as usize;
@@ -33,28 +31,28 @@ fn turn(s: &mut Words, c: Change, k: u32) -> Reply
     match c {
         Change::Map => {
             if n >= 255 {
-                return Reply::Refused(Refusal::MapsFull);
+                return Err(Refusal::MapsFull);
             }
             s[at] = n + 1;
-            Reply::Done
+            Ok(())
         }
         Change::Unmap => {
             if n == 0 {
-                return Reply::Refused(Refusal::NotMapped);
+                return Err(Refusal::NotMapped);
             }
             s[at] = n - 1;
-            Reply::Done
+            Ok(())
         }
     }
 }
 
 // A buffer is mapped or unmapped, by its offset and its length; frames have this size.
-pub fn change(s: &mut Words, c: Change, size: u32, offset: u32, length: u32) -> Reply
-    ensures { answers result (stream_in s.new) ≡ change_of c (stream_in s.old) size offset length }
+pub fn change(s: &mut Words, c: Change, size: u32, offset: u32, length: u32) -> Result<(), Refusal>
+    ensures { answers (done result) (stream_in s.new) ≡ change_of c (stream_in s.old) size offset length }
 {
     let n = mappable(s);
-    let Slot::Buffer(k) = stream_slots::slot_at(n, size, offset, length) else {
-        return Reply::Refused(Refusal::NoSuchBuffer);
+    let Some(k) = stream_slots::slot_at(n, size, offset, length) else {
+        return Err(Refusal::NoSuchBuffer);
     };
     turn(s, c, k)
 }

@@ -1,11 +1,10 @@
 -- A buffer is handed in, or handed over: what the call answers, and the stream after it. The first test that holds decides.
-use Rattle.std.specs.Prelude.{ℕ, cond, not, ◌||◌, ◌==◌, nat_le}
+use Rattle.std.specs.Prelude.{ℕ, cond, not, ◌||◌, ◌==◌, nat_le, Option, Some, None}
 use Rattle.ioctl_table.specs.declared.refusals.Refusal.TheVariants.{NoSuchIndex, NotDequeued, NoBuffers, NotStreaming, NothingOutgoing}
-use Rattle.stream_words.specs.declared.Oldest.{Oldest}
-use Rattle.stream_words.specs.declared.Oldest.TheVariants.{Empty, Frame}
+use Rattle.stream_words.specs.declared.Filled.{Filled}
 use Rattle.stream_words.specs.Stream.{Stream, on_queues}
 use Rattle.stream_words.specs.Moves.{is_incoming, is_outgoing, oldest_of, pushed, popped}
-use Rattle.stream_run.specs.declared.Reply.TheVariants.{Done, Returned}
+use Rattle.stream_run.specs.Replies.Reply.{Done, Returned}
 use Rattle.stream_run.specs.Stream.{streaming, handed_run}
 use Rattle.stream_run.specs.Switches.{Step, answers, refuses}
 
@@ -17,9 +16,9 @@ enqueue_of s k =
     (answers Done (on_queues (λ q. pushed q k) s)))
 
 -- the oldest frame held is handed over
-abbrev pub handed_over : Oldest → Stream → Step
-handed_over Empty s = refuses NothingOutgoing s
-handed_over (Frame f) s = answers (Returned f) (record { length = s.length; streaming = s.streaming; run = handed_run s.run; number = s.number; queues = popped s.queues; maps = s.maps })
+abbrev pub handed_over : Option Filled → Stream → Step
+handed_over None s = refuses NothingOutgoing s
+handed_over (Some f) s = answers (Returned f) (record { length = s.length; streaming = s.streaming; run = handed_run s.run; number = s.number; queues = popped s.queues; maps = s.maps })
 
 -- DQBUF: with buffers, in a run, and a frame held
 unfoldable pub dequeue_of : Stream → Step

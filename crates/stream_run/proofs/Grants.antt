@@ -11,8 +11,8 @@ use Rattle.ioctl_table.specs.declared.refusals.Refusal.{Refusal}
 use Rattle.ioctl_table.specs.declared.refusals.Refusal.TheVariants.{StillMapped, Streaming}
 use Rattle.stream_words.specs.Stream.{Stream}
 use Rattle.stream_maps.specs.Maps.{any_mapped}
-use Rattle.stream_run.specs.declared.Reply.{Reply}
-use Rattle.stream_run.specs.declared.Reply.TheVariants.{Done, Granted, Returned, Refused}
+use Rattle.stream_run.specs.Replies.{Reply}
+use Rattle.stream_run.specs.Replies.Reply.{Done, Granted, Returned, Refused}
 use Rattle.stream_run.specs.Stream.{streaming, stopped}
 use Rattle.stream_run.specs.Switches.{Step, answers, refuses, grant_of, request_buffers_of}
 

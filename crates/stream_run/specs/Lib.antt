@@ -1,3 +1,4 @@
+pub mod Replies
 pub mod Switches
 pub mod Numbers
 pub mod Stream

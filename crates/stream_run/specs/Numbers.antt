@@ -1,8 +1,8 @@
 -- The numbers that replies give back.
 use Rattle.std.specs.Prelude.{ℕ}
 use Rattle.ioctl_table.specs.Refusal.{errno_of}
-use Rattle.stream_run.specs.declared.Reply.{Reply}
-use Rattle.stream_run.specs.declared.Reply.TheVariants.{Done, Granted, Returned, Refused}
+use Rattle.stream_run.specs.Replies.{Reply}
+use Rattle.stream_run.specs.Replies.Reply.{Done, Granted, Returned, Refused}
 
 -- 0 is done; a refusal has its own
 abbrev pub reply_number : Reply → ℕ

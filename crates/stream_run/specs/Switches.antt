@@ -5,8 +5,8 @@ use Rattle.ioctl_table.specs.declared.refusals.Refusal.TheVariants.{NoBuffers, S
 use Rattle.stream_slots.specs.Slot.{slot_size}
 use Rattle.stream_words.specs.Stream.{Stream}
 use Rattle.stream_maps.specs.Maps.{any_mapped}
-use Rattle.stream_run.specs.declared.Reply.{Reply}
-use Rattle.stream_run.specs.declared.Reply.TheVariants.{Done, Granted, Refused}
+use Rattle.stream_run.specs.Replies.{Reply}
+use Rattle.stream_run.specs.Replies.Reply.{Done, Granted, Refused}
 use Rattle.stream_run.specs.Stream.{streaming, started, stopped}
 
 -- the answer to a call, and the stream after it

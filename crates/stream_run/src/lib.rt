@@ -5,17 +5,6 @@ mod numbers;
 mod run;
 mod switches;
 
-use ioctl_table::Refusal;
 pub use numbers::reply_number;
 pub use run::fresh;
-use stream_words::Filled;
 pub use switches::{request_buffers, start, stop};
-
-// What a call is answered.
-#[derive(Clone, Copy)]
-pub enum Reply {
-    Done,
-    Granted(u32),
-    Returned(Filled),
-    Refused(Refusal),
-}

@@ -1,9 +1,11 @@
 // Buffers are granted, a run begins, a run ends: each with its refusals in the order of the checks.
 ghost use Rattle.std.specs.Prelude.{◌≡◌, min};
 ghost use Rattle.stream_words.specs.Words.{stream_in};
+ghost use Rattle.stream_run.specs.Replies.{done, granted};
+ghost use Rattle.stream_run.specs.Replies.Reply.{Done};
 ghost use Rattle.stream_run.specs.Switches.{answers, grant_of, request_buffers_of, start_of, stop_of};
 
-use crate::{Reply, run};
+use crate::run;
 use ioctl_table::Refusal;
 use stream_words::{GRANTED, LENGTH, STREAMING, Words};
 
@@ -26,39 +28,38 @@ fn grant(length: u64, count: u32, size: u32) -> u32
 
 // Buffers are asked for. All there were go first, and so does a run; while one is on, only a count of 0 is taken. While a buffer is mapped
 // nothing is: its memory is in a client's hands.
-pub fn request_buffers(s: &mut Words, count: u32, size: u32) -> Reply
-    ensures { answers result (stream_in s.new) ≡ request_buffers_of (stream_in s.old) count size }
+pub fn request_buffers(s: &mut Words, count: u32, size: u32) -> Result<u32, Refusal>
+    ensures { answers (granted result) (stream_in s.new) ≡ request_buffers_of (stream_in s.old) count size }
 {
     if stream_maps::any_mapped(s) {
-        return Reply::Refused(Refusal::StillMapped);
+        return Err(Refusal::StillMapped);
     }
     if (s[STREAMING] != 0) & (count != 0) {
-        return Reply::Refused(Refusal::Streaming);
+        return Err(Refusal::Streaming);
     }
     let n = grant(s[LENGTH], count, size);
     run::end(s, n as u64);
-    Reply::Granted(n)
+    Ok(n)
 }
 
 // A run begins, unless one is on.
-pub fn start(s: &mut Words) -> Reply
-    ensures { answers result (stream_in s.new) ≡ start_of (stream_in s.old) }
+pub fn start(s: &mut Words) -> Result<(), Refusal>
+    ensures { answers (done result) (stream_in s.new) ≡ start_of (stream_in s.old) }
 {
     if s[GRANTED] == 0 {
-        return Reply::Refused(Refusal::NoBuffers);
+        return Err(Refusal::NoBuffers);
     }
     if s[STREAMING] != 0 {
-        return Reply::Done;
+        return Ok(());
     }
     run::begin(s);
-    Reply::Done
+    Ok(())
 }
 
 // The run ends, if one is on; both queues are emptied in any case.
-pub fn stop(s: &mut Words) -> Reply
-    ensures { answers result (stream_in s.new) ≡ stop_of (stream_in s.old) }
+pub fn stop(s: &mut Words)
+    ensures { answers Done (stream_in s.new) ≡ stop_of (stream_in s.old) }
 {
     let granted = s[GRANTED];
     run::end(s, granted);
-    Reply::Done
 }

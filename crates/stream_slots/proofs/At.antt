@@ -6,8 +6,7 @@ use native.Mathlib.Omega.{arith}
 use native.Mathlib.Nat.{mod-add-div', mul-div_cancel, mul-mod_left}
 use borrow.Author.Tests.{eqb-true, eqb-false, eq-eqb, ne_eqb, ltb-true, lt-ltb, le-ltb, not-true}
 use lib.Dec.{eqb, ltb}
-use Rattle.stream_slots.specs.declared.Slot.{Slot}
-use Rattle.stream_slots.specs.declared.Slot.TheVariants.{NoBuffer, Buffer}
+use Rattle.std.specs.Prelude.{Option, Some, None}
 use Rattle.stream_slots.specs.Slot.{slot_size, slot_offset, is_slot, buffer_at, slot_at}
 
 and_both : (a b : Bool) → (a && b) ≡ true → (a ≡ true) × (b ≡ true)
@@ -18,11 +17,11 @@ and_false : (a : Bool) → (a && false) ≡ false
 and_false true = refl
 and_false false = refl
 
-abbrev found : Slot → Bool
-found NoBuffer = false
-found (Buffer k) = true
+abbrev found : Option ℕ → Bool
+found None = false
+found (Some k) = true
 
-no_buffer : (k : ℕ) → NoBuffer ≡ Buffer k → ⊥
+no_buffer : (k : ℕ) → None ≡ Some k → ⊥
 no_buffer k e = false≢true (ap found e)
 
 module _ (n size offset length : ℕ) where
@@ -46,28 +45,28 @@ module _ (n size offset length : ℕ) where
 
   -- what the tests find, the length being a slot: no whole number of slots, too many of them, or a buffer
   module _ (is : length ≡ slot_size size) where
-    pub not_whole : (offset % length ≡ 0 → ⊥) → slot_at n size offset length ≡ NoBuffer
+    pub not_whole : (offset % length ≡ 0 → ⊥) → slot_at n size offset length ≡ None
     unfolding slot_at is_slot
     not_whole h = rw (sym is, ne_eqb (offset % length) 0 h, and_false (not (eqb length 0) && eqb length length))
 
-    pub too_far : n ≤ offset / length → slot_at n size offset length ≡ NoBuffer
+    pub too_far : n ≤ offset / length → slot_at n size offset length ≡ None
     unfolding slot_at is_slot
     too_far h = rw (sym is, le-ltb (offset / length) n h, and_false (not (eqb length 0) && eqb length length && eqb (offset % length) 0))
 
-    pub there : (length ≡ 0 → ⊥) → offset % length ≡ 0 → offset / length < n → slot_at n size offset length ≡ Buffer (offset / length)
+    pub there : (length ≡ 0 → ⊥) → offset % length ≡ 0 → offset / length < n → slot_at n size offset length ≡ Some (offset / length)
     unfolding slot_at is_slot
     there a b c = rw (sym is, ne_eqb length 0 a, eq-eqb length length refl, eq-eqb (offset % length) 0 b, lt-ltb (offset / length) n c)
 
 -- a buffer that is found is one of the n
-pub found_below : (n size offset length k : ℕ) → slot_at n size offset length ≡ Buffer k → k < n
+pub found_below : (n size offset length k : ℕ) → slot_at n size offset length ≡ Some k → k < n
 unfolding slot_at
 found_below n size offset length k h = by (is_slot n size offset length) refl h
   where
-    index : Slot → ℕ
-    index NoBuffer = 0
-    index (Buffer j) = j
+    index : Option ℕ → ℕ
+    index None = 0
+    index (Some j) = j
 
-    by : (b : Bool) → is_slot n size offset length ≡ b → cond b (Buffer (buffer_at size offset)) NoBuffer ≡ Buffer k → k < n
+    by : (b : Bool) → is_slot n size offset length ≡ b → cond b (Some (buffer_at size offset)) None ≡ Some k → k < n
     by true e f = omega (arith, ap index f, (slot_is n size offset length e).3)
     by false e f = absurd (no_buffer k f)
 

@@ -4,13 +4,6 @@
 ghost use Rattle.std.specs.Prelude.{◌≡◌};
 ghost use Rattle.stream_slots.specs.Slot.{slot_size, slot_offset, slot_at};
 
-// The buffer that an offset and a length mean, if they mean one.
-#[derive(Clone, Copy)]
-pub enum Slot {
-    NoBuffer,
-    Buffer(u32),
-}
-
 // The bytes that a buffer takes: the frame size rounded up to whole pages.
 pub fn slot_size(size: u32) -> u64
     ensures { result ≡ slot_size size }
@@ -26,22 +19,22 @@ pub fn slot_offset(k: u32, size: u32) -> u64
 }
 
 // Which of n buffers has this offset and this length. It is found by arithmetic: the length is the slot, so the offset is divided by it.
-pub fn slot_at(n: u64, size: u32, offset: u32, length: u32) -> Slot
+pub fn slot_at(n: u64, size: u32, offset: u32, length: u32) -> Option<u32>
     ensures { result ≡ slot_at n size offset length }
 {
     let slot = slot_size(size);
     if slot == 0 {
-        return Slot::NoBuffer;
+        return None;
     }
     if length as u64 != slot {
-        return Slot::NoBuffer;
+        return None;
     }
     if offset % length != 0 {
-        return Slot::NoBuffer;
+        return None;
     }
     let k = offset / length;
     if n <= k as u64 {
-        return Slot::NoBuffer;
+        return None;
     }
-    Slot::Buffer(k)
+    Some(k)
 }

@@ -12,7 +12,7 @@ use Rattle.stream_words.specs.Stream.{Stream, on_queues}
 use Rattle.stream_words.specs.Moves.{is_incoming, is_outgoing, has_room, pushed}
 use Rattle.stream_maps.specs.Maps.{is_mapped}
 use Rattle.stream_search.proofs.Found.{standing_pushed}
-use Rattle.stream_run.specs.declared.Reply.TheVariants.{Done}
+use Rattle.stream_run.specs.Replies.Reply.{Done}
 use Rattle.stream_run.specs.Switches.{Step, answers, refuses}
 use Rattle.stream_queue.specs.Queueing.{enqueue_of}
 use Rattle.stream_run.specs.Numbers.{reply_number}

@@ -1,5 +1,6 @@
 -- The status of a buffer, as QUERYBUF, QBUF and DQBUF tell it.
-use Rattle.std.specs.Prelude.{ℕ, ◌+◌, Bool, cond, List, leb}
+use Rattle.std.specs.Prelude.{ℕ, ◌+◌, Bool, cond, List, leb, Result, Ok, Err}
+use Rattle.ioctl_table.specs.declared.refusals.Refusal.{Refusal}
 use Rattle.ioctl_table.specs.declared.refusals.Refusal.TheVariants.{NoSuchIndex}
 use Rattle.stream_words.specs.declared.Filled.{Filled}
 use Rattle.stream_words.specs.declared.Standing.{Standing}
@@ -9,8 +10,6 @@ use Rattle.stream_words.specs.Stream.{Stream}
 use Rattle.stream_words.specs.Moves.{no_frame, standing_of}
 use Rattle.stream_maps.specs.Maps.{is_mapped}
 use Rattle.stream_status.specs.declared.Status.{Status}
-use Rattle.stream_status.specs.declared.Queried.{Queried}
-use Rattle.stream_status.specs.declared.Queried.TheVariants.{Buffer, Refused}
 
 -- flag 4 if outgoing, 2 if incoming, none if dequeued
 abbrev pub flags_for : Standing → ℕ
@@ -42,8 +41,8 @@ unfoldable pub queued_of : List ℕ → ℕ → Bool → ℕ → Status
 queued_of m k room size = described_of k (flags_of (is_mapped m k) (cond room Incoming Dequeued)) no_frame size
 
 -- of a buffer that is there
-unfoldable pub query_of : Stream → ℕ → ℕ → Queried
-query_of s k size = cond (leb s.queues.granted k) (Refused NoSuchIndex) (Buffer (status_of s k size))
+unfoldable pub query_of : Stream → ℕ → ℕ → Result Status Refusal
+query_of s k size = cond (leb s.queues.granted k) (Err NoSuchIndex) (Ok (status_of s k size))
 
 -- DQBUF: the entry handed over, now in neither queue, the map counts being m
 unfoldable pub returned_of : List ℕ → Filled → ℕ → Status

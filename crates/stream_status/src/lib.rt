@@ -21,13 +21,6 @@ pub struct Status {
     pub time: Time,
 }
 
-// What asking for the status of a buffer gives.
-#[derive(Clone, Copy)]
-pub enum Queried {
-    Buffer(Status),
-    Refused(Refusal),
-}
-
 // The flags of the queue that it is in.
 fn place_flags(st: Standing) -> u32
     ensures { (result ≡ flags_for st) × (result ≤ 4) }
@@ -97,14 +90,13 @@ pub fn queued(s: &Words, k: u32, room: bool, size: u32) -> Status
 }
 
 // The status of buffer k, if there is one.
-pub fn query(s: &Words, k: u32, size: u32) -> Queried
+pub fn query(s: &Words, k: u32, size: u32) -> Result<Status, Refusal>
     ensures { result ≡ query_of (stream_in s.now) k size }
 {
     if s[stream_words::GRANTED] <= k as u64 {
-        return Queried::Refused(Refusal::NoSuchIndex);
+        return Err(Refusal::NoSuchIndex);
     }
-    let status = of_buffer(s, k, size);
-    Queried::Buffer(status)
+    Ok(of_buffer(s, k, size))
 }
 
 // The status of a buffer that is handed over with this frame.

@@ -1,11 +1,7 @@
 -- How buffers move between the queues.
-use Rattle.std.specs.Prelude.{ℕ, ◌+◌, Bool, cond, List, [], ◌∷◌, ◌++◌, ltb, eqb, pos, length}
+use Rattle.std.specs.Prelude.{ℕ, ◌+◌, Bool, cond, List, [], ◌∷◌, ◌++◌, ltb, eqb, pos, length, Option, Some, None}
 use Rattle.stream_words.specs.declared.Time.{Time}
 use Rattle.stream_words.specs.declared.Filled.{Filled}
-use Rattle.stream_words.specs.declared.Oldest.{Oldest}
-use Rattle.stream_words.specs.declared.Oldest.TheVariants.{Empty, Frame}
-use Rattle.stream_words.specs.declared.Next.{Next}
-use Rattle.stream_words.specs.declared.Next.TheVariants.{Nobody, Index}
 use Rattle.stream_words.specs.declared.Standing.{Standing}
 use Rattle.stream_words.specs.declared.Standing.TheVariants.{Dequeued, Incoming, Outgoing}
 use Rattle.wire_read.specs.Lists.{any, first, rest}
@@ -32,14 +28,14 @@ unfoldable pub entry_of : Queues → ℕ → Filled
 entry_of q k = first (of_buffer k) no_frame q.outgoing
 
 -- the first of the frames
-abbrev pub oldest_of : List Filled → Oldest
-oldest_of [] = Empty
-oldest_of (f ∷ o) = Frame f
+abbrev pub oldest_of : List Filled → Option Filled
+oldest_of [] = None
+oldest_of (f ∷ o) = Some f
 
 -- the first of the buffers that wait
-abbrev pub next_of : List ℕ → Next
-next_of [] = Nobody
-next_of (k ∷ i) = Index k
+abbrev pub next_of : List ℕ → Option ℕ
+next_of [] = None
+next_of (k ∷ i) = Some k
 
 -- n buffers, all dequeued
 unfoldable pub emptied : ℕ → Queues

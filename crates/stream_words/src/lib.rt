@@ -31,20 +31,6 @@ pub enum Standing {
     Outgoing(Filled),
 }
 
-// The frame that has been held longest.
-#[derive(Clone, Copy)]
-pub enum Oldest {
-    Empty,
-    Frame(Filled),
-}
-
-// The buffer that has waited longest for a frame.
-#[derive(Clone, Copy)]
-pub enum Next {
-    Nobody,
-    Index(u32),
-}
-
 // The words of a stream.
 pub type Words = [u64; 208];
 

@@ -2,12 +2,12 @@
 use Rattle.buffer_calls.specs.Buffers.{querybuf_of}
 use Rattle.buffer_calls.proofs.querybuf.Goals as goal
 
-pub returns-in-Buffer : goal.returns-in-Buffer
+pub returns-in-Ok : goal.returns-in-Ok
 unfolding querybuf_of
-returns-in-Buffer c =
-    rw (c.put_buffer.ensures, ← c.word_at-k.ensures, ← c.query.ensures, c.in-Buffer.is)
+returns-in-Ok c =
+    rw (c.put_buffer.ensures, ← c.word_at-k.ensures, ← c.query.ensures, c.in-Ok.is)
 
-pub returns-in-Refused : goal.returns-in-Refused
+pub returns-in-Err : goal.returns-in-Err
 unfolding querybuf_of
-returns-in-Refused c =
-    rw (c.errno.ensures, ← c.word_at-k.ensures, ← c.query.ensures, c.in-Refused.is)
+returns-in-Err c =
+    rw (c.errno.ensures, ← c.word_at-k.ensures, ← c.query.ensures, c.in-Err.is)

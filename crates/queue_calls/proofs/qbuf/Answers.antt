@@ -4,6 +4,7 @@ use mathlib.Core.Bool.{Bool}
 use Rattle.stream_words.specs.Words.{stream_in}
 use Rattle.stream_status.specs.Buffer.{queued_of}
 use Rattle.stream_status.proofs.Joined.{queued_status}
+use Rattle.stream_run.specs.Replies.{done}
 use Rattle.queue_calls.specs.Queues.{enqueue_reply, qbuf_of}
 use Rattle.buffer_calls.proofs.Cases.{is_one_law, not_one, step_told}
 use Rattle.queue_calls.proofs.qbuf.Goals as goal
@@ -12,34 +13,20 @@ pub returns-then-word_at-ne1 : goal.returns-then-word_at-ne1
 unfolding qbuf_of
 returns-then-word_at-ne1 c = rw (not_one c.word_at.ensures c.if-word_at-ne1.true, c.errno.ensures)
 
-pub returns-in-Done : goal.returns-in-Done
+pub returns-in-Ok : goal.returns-in-Ok
 unfolding qbuf_of
-returns-in-Done c =
+returns-in-Ok c =
     let a = c.args in
     let q = c.queued in
-    let is = rw c.in-Done.is at c.enqueue.ensures in
+    let is = rw c.in-Ok.is at c.enqueue.ensures in
     let status = q.ensures ∙ ap (λ (b : Bool). queued_of (stream_in c.enqueue.new.s).maps c.word_at-k.result b a.size) c.has_room-room.ensures ∙ queued_status _ _ c.word_at-k.result a.size is in
     rw (is_one_law c.word_at.ensures c.if-word_at-ne1.false)
-    (step_told (rw c.word_at-k.ensures at c.enqueue.ensures) (λ q z. enqueue_reply q z a.kind a.size a.argument.now) _ c.in-Done.is refl
+    (step_told (rw c.word_at-k.ensures at c.enqueue.ensures) (λ q z. enqueue_reply q z a.kind a.size a.argument.now) _ (ap done c.in-Ok.is) refl
     (rw (status, c.word_at-k.ensures) at c.put_buffer.ensures))
 
-pub returns-in-Refused : goal.returns-in-Refused
+pub returns-in-Err : goal.returns-in-Err
 unfolding qbuf_of
-returns-in-Refused c =
+returns-in-Err c =
     let a = c.args in
     rw (is_one_law c.word_at.ensures c.if-word_at-ne1.false)
-    (step_told (rw c.word_at-k.ensures at c.enqueue.ensures) (λ q z. enqueue_reply q z a.kind a.size a.argument.now) _ c.in-Refused.is c.errno-in-Refused.ensures refl)
-
-pub returns-in-Granted : goal.returns-in-Granted
-unfolding qbuf_of
-returns-in-Granted c =
-    let a = c.args in
-    rw (is_one_law c.word_at.ensures c.if-word_at-ne1.false)
-    (step_told (rw c.word_at-k.ensures at c.enqueue.ensures) (λ q z. enqueue_reply q z a.kind a.size a.argument.now) _ c.in-Granted.is refl refl)
-
-pub returns-in-Returned : goal.returns-in-Returned
-unfolding qbuf_of
-returns-in-Returned c =
-    let a = c.args in
-    rw (is_one_law c.word_at.ensures c.if-word_at-ne1.false)
-    (step_told (rw c.word_at-k.ensures at c.enqueue.ensures) (λ q z. enqueue_reply q z a.kind a.size a.argument.now) _ c.in-Returned.is refl refl)
+    (step_told (rw c.word_at-k.ensures at c.enqueue.ensures) (λ q z. enqueue_reply q z a.kind a.size a.argument.now) _ (ap done c.in-Err.is) c.errno-in-Err.ensures refl)

@@ -6,4 +6,4 @@ use Rattle.run_calls.proofs.streamoff.Goals as goal
 
 pub returns : goal.returns
 unfolding streamoff_of
-returns c kind size a = step_told c.stop.ensures (λ q z. a) _ refl c.reply_number.ensures refl
+returns c kind size a = step_told c.stop.ensures (λ q z. a) _ refl refl refl

@@ -36,5 +36,5 @@ returns c =
       streaming_is,
       ne_eqb _ _ c.if-s-eq0.false,
       ne_eqb _ _ c.if-s-eq0-2.false,
-      sym c.in-Frame.ensures,
+      sym c.in-Some.ensures,
     ))

@@ -10,4 +10,4 @@ returns-then-s-k c = simp (granted_is, le-leb _ _ c.if-s-k.true)
 
 pub returns : goal.returns
 unfolding query_of
-returns c = simp (granted_is, lt-leb _ _ c.if-s-k.false, c.of_buffer-status.ensures)
+returns c = simp (granted_is, lt-leb _ _ c.if-s-k.false, c.of_buffer.ensures)

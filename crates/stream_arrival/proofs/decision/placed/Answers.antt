@@ -17,4 +17,4 @@ returns-in_default c =
 pub returns : goal.returns
 unfolding placed_of
 returns c =
-    simp (sym c.in-Index.ensures, c.fill.ensures)
+    simp (sym c.in-Some.ensures, c.fill.ensures)
