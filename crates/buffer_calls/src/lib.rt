@@ -3,6 +3,7 @@
 #![tactic(auto)]
 
 ghost use Rattle.std.specs.Prelude.{◌≡◌};
+ghost use Rattle.ioctl_table.specs.Refusal.{number_of};
 ghost use Rattle.stream_words.specs.Words.{stream_in};
 ghost use Rattle.buffer_calls.specs.Buffers.{stream_answer, reqbufs_of, querybuf_of};
 
@@ -10,32 +11,24 @@ use ioctl_table::Refusal;
 use stream_words::Words;
 
 // Buffers are asked for, or freed.
-pub fn reqbufs(s: &mut Words, kind: u32, size: u32, argument: &mut [u8]) -> u32
-    ensures { stream_answer result (stream_in s.new) argument.new ≡ reqbufs_of (stream_in s.old) kind size argument.old }
+pub fn reqbufs(s: &mut Words, kind: u32, size: u32, argument: &mut [u8]) -> Result<(), Refusal>
+    ensures { stream_answer (number_of result) (stream_in s.new) argument.new ≡ reqbufs_of (stream_in s.old) kind size argument.old }
 {
     if wire_read::word_at(argument, 8) != 1 {
-        return ioctl_table::errno(Refusal::WrongMemory);
+        return Err(Refusal::WrongMemory);
     }
     let count = wire_read::word_at(argument, 0);
-    match stream_run::request_buffers(s, count, size) {
-        Ok(n) => {
-            buffer_replies::put_buffers(argument, kind, n);
-            0
-        }
-        Err(why) => ioctl_table::errno(why),
-    }
+    let n = stream_run::request_buffers(s, count, size)?;
+    buffer_replies::put_buffers(argument, kind, n);
+    Ok(())
 }
 
 // The status of a buffer.
-pub fn querybuf(s: &Words, kind: u32, size: u32, argument: &mut [u8]) -> u32
-    ensures { stream_answer result (stream_in s.now) argument.new ≡ querybuf_of (stream_in s.now) kind size argument.old }
+pub fn querybuf(s: &Words, kind: u32, size: u32, argument: &mut [u8]) -> Result<(), Refusal>
+    ensures { stream_answer (number_of result) (stream_in s.now) argument.new ≡ querybuf_of (stream_in s.now) kind size argument.old }
 {
     let k = wire_read::word_at(argument, 0);
-    match stream_status::query(s, k, size) {
-        Ok(b) => {
-            buffer_replies::put_buffer(argument, kind, b);
-            0
-        }
-        Err(why) => ioctl_table::errno(why),
-    }
+    let b = stream_status::query(s, k, size)?;
+    buffer_replies::put_buffer(argument, kind, b);
+    Ok(())
 }

@@ -3,6 +3,7 @@
 #![tactic(auto)]
 
 ghost use Rattle.std.specs.Prelude.{◌≡◌};
+ghost use Rattle.ioctl_table.specs.Refusal.{number_of};
 ghost use Rattle.stream_words.specs.Words.{stream_in};
 ghost use Rattle.buffer_calls.specs.Buffers.{stream_answer};
 ghost use Rattle.dequeue_calls.specs.Dequeues.{dqbuf_of};
@@ -11,17 +12,13 @@ use ioctl_table::Refusal;
 use stream_words::Words;
 
 // The oldest filled buffer is handed over.
-pub fn dqbuf(s: &mut Words, kind: u32, size: u32, argument: &mut [u8]) -> u32
-    ensures { stream_answer result (stream_in s.new) argument.new ≡ dqbuf_of (stream_in s.old) kind size argument.old }
+pub fn dqbuf(s: &mut Words, kind: u32, size: u32, argument: &mut [u8]) -> Result<(), Refusal>
+    ensures { stream_answer (number_of result) (stream_in s.new) argument.new ≡ dqbuf_of (stream_in s.old) kind size argument.old }
 {
     if wire_read::word_at(argument, 48) != 1 {
-        return ioctl_table::errno(Refusal::WrongMemory);
+        return Err(Refusal::WrongMemory);
     }
-    match stream_queue::dequeue(s) {
-        Ok(f) => {
-            buffer_replies::put_buffer(argument, kind, stream_status::returned(s, f, size));
-            0
-        }
-        Err(why) => ioctl_table::errno(why),
-    }
+    let f = stream_queue::dequeue(s)?;
+    buffer_replies::put_buffer(argument, kind, stream_status::returned(s, f, size));
+    Ok(())
 }

@@ -3,6 +3,7 @@
 #![tactic(auto)]
 
 ghost use Rattle.std.specs.Prelude.{◌≡◌};
+ghost use Rattle.ioctl_table.specs.Refusal.{number_of};
 ghost use Rattle.stream_words.specs.Words.{stream_in};
 ghost use Rattle.buffer_calls.specs.Buffers.{stream_answer};
 ghost use Rattle.queue_calls.specs.Queues.{qbuf_of};
@@ -11,19 +12,15 @@ use ioctl_table::Refusal;
 use stream_words::Words;
 
 // A buffer is handed in.
-pub fn qbuf(s: &mut Words, kind: u32, size: u32, argument: &mut [u8]) -> u32
-    ensures { stream_answer result (stream_in s.new) argument.new ≡ qbuf_of (stream_in s.old) kind size argument.old }
+pub fn qbuf(s: &mut Words, kind: u32, size: u32, argument: &mut [u8]) -> Result<(), Refusal>
+    ensures { stream_answer (number_of result) (stream_in s.new) argument.new ≡ qbuf_of (stream_in s.old) kind size argument.old }
 {
     if wire_read::word_at(argument, 48) != 1 {
-        return ioctl_table::errno(Refusal::WrongMemory);
+        return Err(Refusal::WrongMemory);
     }
     let k = wire_read::word_at(argument, 0);
     let room = stream_line::has_room(s);
-    match stream_queue::enqueue(s, k) {
-        Ok(()) => {
-            buffer_replies::put_buffer(argument, kind, stream_status::queued(s, k, room, size));
-            0
-        }
-        Err(why) => ioctl_table::errno(why),
-    }
+    stream_queue::enqueue(s, k)?;
+    buffer_replies::put_buffer(argument, kind, stream_status::queued(s, k, room, size));
+    Ok(())
 }
