@@ -1,25 +1,22 @@
 -- A call on the streams, at the three exits of its test of the type. Assumes nothing.
 use Prim.Native.Nat.{ℕ}
 use mathlib.Core.List.{List}
-use mathlib.Core.Path.{◌≡◌, refl, ◌∙◌, sym, ap}
+use mathlib.Core.Path.{◌≡◌, ◌∙◌, sym, ap}
 use Rattle.wire_read.specs.Words.{word_at}
 use Rattle.ioctl_table.specs.Refusal.{errno_of}
 use Rattle.ioctl_table.specs.declared.refusals.Refusal.TheVariants.{WrongType}
-use Rattle.ioctl_table.specs.declared.table.Call.{Call}
-use Rattle.ioctl_table.specs.declared.table.Call.TheVariants.{Unknown, Querycap, EnumFmt, GFmt, SFmt, TryFmt, Reqbufs, Querybuf, Qbuf, Dqbuf, Streamon, Streamoff, GCtrl, SCtrl, Queryctrl, Cropcap, GCrop, SCrop, GSlicedVbiCap}
 use Rattle.stream_words.specs.Stream.{Stream}
 use Rattle.service_rules.specs.Negotiation.{io_size}
 use Rattle.buffer_calls.specs.Buffers.{StreamAnswer, stream_answer}
 use Rattle.device_state.specs.State.{State, with_streams}
 use Rattle.device_state.specs.Answers.{answer}
 use Rattle.device_state.proofs.Typed.{by_pictures, by_captions_law, by_neither}
-use Rattle.request_topics.specs.Request.{by_video, by_captions, stream_call, topic_of, streams}
-use Rattle.request_streams.specs.OnStream.{unknown_there, stream_answer_of}
+use Rattle.request_topics.specs.Request.{by_video, by_captions, stream_call}
 
 -- the call f, which names its type at a place; the streams v and c and the argument a before it; the word w read at that place; d is the state but for its streams
 module _ (f : Stream → ℕ → ℕ → List ℕ → StreamAnswer) (at : ℕ) (d : State) (v c : Stream) (a : List ℕ) {w : ℕ} (e : w ≡ word_at a at) where
   -- another type is refused
-  pub other_type : {n : ℕ} → (w ≡ 1 → ⊥) → (w ≡ 6 → ⊥) → n ≡ errno_of WrongType → answer n (with_streams d v c) a ≡ stream_call f at (with_streams d v c) a
+  pub other_type : (w ≡ 1 → ⊥) → (w ≡ 6 → ⊥) → answer (errno_of WrongType) (with_streams d v c) a ≡ stream_call f at (with_streams d v c) a
   other_type = by_neither at (with_streams d v c) a _ _ e
 
   -- type 1 is answered as the stream of pictures answers, with frames of the size in force
@@ -29,25 +26,3 @@ module _ (f : Stream → ℕ → ℕ → List ℕ → StreamAnswer) (at : ℕ) (
   -- type 6 as that of captions does, with frames of the io size
   pub captions_called : w ≡ 6 → {n size : ℕ} {y : Stream} {b : List ℕ} → io_size d.services ≡ size → stream_answer n y b ≡ f c 6 size a → answer n (with_streams d v y) b ≡ stream_call f at (with_streams d v c) a
   captions_called h z q = ap (by_captions (with_streams d v c)) (q ∙ ap (λ (k : ℕ). f c 6 k a) (sym z)) ∙ sym (by_captions_law at (with_streams d v c) a _ _ e h)
-
--- a call that is about something else
-pub not_there : (call : Call) → (topic_of call ≡ streams → ⊥) → (x : Stream) (kind size : ℕ) (a : List ℕ) → unknown_there x a ≡ stream_answer_of call x kind size a
-not_there Unknown h x kind size a = refl
-not_there Querycap h x kind size a = refl
-not_there EnumFmt h x kind size a = refl
-not_there GFmt h x kind size a = refl
-not_there SFmt h x kind size a = refl
-not_there TryFmt h x kind size a = refl
-not_there Reqbufs h x kind size a = absurd (h refl)
-not_there Querybuf h x kind size a = absurd (h refl)
-not_there Qbuf h x kind size a = absurd (h refl)
-not_there Dqbuf h x kind size a = absurd (h refl)
-not_there Streamon h x kind size a = absurd (h refl)
-not_there Streamoff h x kind size a = absurd (h refl)
-not_there GCtrl h x kind size a = refl
-not_there SCtrl h x kind size a = refl
-not_there Queryctrl h x kind size a = refl
-not_there Cropcap h x kind size a = refl
-not_there GCrop h x kind size a = refl
-not_there SCrop h x kind size a = refl
-not_there GSlicedVbiCap h x kind size a = refl

@@ -3,14 +3,19 @@
 #![tactic(auto)]
 
 ghost use Rattle.std.specs.Prelude.{◌≡◌, List, ℕ};
+ghost use Rattle.request_topics.specs.declared.About.TheVariants.{Streams};
+ghost use Rattle.ioctl_table.specs.Refusal.{number_of};
 ghost use Rattle.stream_words.specs.Words.{stream_in};
 ghost use Rattle.device_state.specs.State.{State, with_streams};
 ghost use Rattle.device_state.specs.Answers.{answer};
-ghost use Rattle.request_topics.specs.Request.{on_topic, streams};
+ghost use Rattle.request_topics.specs.Request.{on_topic};
 
 mod by_type;
+mod on_stream;
 
+use by_type::by_type;
 use ioctl_table::{Call, Refusal};
+use on_stream::{Dqbuf, Qbuf, Querybuf, Reqbufs, Streamoff, Streamon};
 use service_rules::Lines;
 use stream_words::Words;
 
@@ -28,96 +33,36 @@ pub fn stream_request(
     video: &mut Words,
     captions: &mut Words,
     argument: &mut [u8],
-) -> u32
+) -> Result<(), Refusal>
     ensures { (s : List ℕ) (d : State) → d.size ≡ size → d.services ≡ services.now
-        → answer result (with_streams d (stream_in video.new) (stream_in captions.new)) argument.new
-        ≡ on_topic streams call s (with_streams d (stream_in video.old) (stream_in captions.old)) argument.old }
+        → answer (number_of result) (with_streams d (stream_in video.new) (stream_in captions.new)) argument.new
+        ≡ on_topic Streams call s (with_streams d (stream_in video.old) (stream_in captions.old)) argument.old }
 {
     match call {
         Call::Reqbufs => {
-            if argument.len() != 20 {
-                return request_topics::WRONG_LENGTH;
-            }
-            by_type::by_type(
-                Call::Reqbufs,
-                BUFFER_TYPE,
-                size,
-                services,
-                video,
-                captions,
-                argument,
-            )
+            request_topics::of_length(argument, 20)?;
+            by_type::<Reqbufs>(BUFFER_TYPE, size, services, video, captions, argument)
         }
         Call::Querybuf => {
-            if argument.len() != 68 {
-                return request_topics::WRONG_LENGTH;
-            }
-            by_type::by_type(
-                Call::Querybuf,
-                BUFFER_TYPE,
-                size,
-                services,
-                video,
-                captions,
-                argument,
-            )
+            request_topics::of_length(argument, 68)?;
+            by_type::<Querybuf>(BUFFER_TYPE, size, services, video, captions, argument)
         }
         Call::Qbuf => {
-            if argument.len() != 68 {
-                return request_topics::WRONG_LENGTH;
-            }
-            by_type::by_type(
-                Call::Qbuf,
-                BUFFER_TYPE,
-                size,
-                services,
-                video,
-                captions,
-                argument,
-            )
+            request_topics::of_length(argument, 68)?;
+            by_type::<Qbuf>(BUFFER_TYPE, size, services, video, captions, argument)
         }
         Call::Dqbuf => {
-            if argument.len() != 68 {
-                return request_topics::WRONG_LENGTH;
-            }
-            by_type::by_type(
-                Call::Dqbuf,
-                BUFFER_TYPE,
-                size,
-                services,
-                video,
-                captions,
-                argument,
-            )
+            request_topics::of_length(argument, 68)?;
+            by_type::<Dqbuf>(BUFFER_TYPE, size, services, video, captions, argument)
         }
         Call::Streamon => {
-            if argument.len() != 4 {
-                return request_topics::WRONG_LENGTH;
-            }
-            by_type::by_type(
-                Call::Streamon,
-                SWITCH_TYPE,
-                size,
-                services,
-                video,
-                captions,
-                argument,
-            )
+            request_topics::of_length(argument, 4)?;
+            by_type::<Streamon>(SWITCH_TYPE, size, services, video, captions, argument)
         }
         Call::Streamoff => {
-            if argument.len() != 4 {
-                return request_topics::WRONG_LENGTH;
-            }
-            by_type::by_type(
-                Call::Streamoff,
-                SWITCH_TYPE,
-                size,
-                services,
-                video,
-                captions,
-                argument,
-            )
+            request_topics::of_length(argument, 4)?;
+            by_type::<Streamoff>(SWITCH_TYPE, size, services, video, captions, argument)
         }
-        _ => ioctl_table::errno(Refusal::UnknownWord),
+        _ => Err(Refusal::UnknownWord),
     }
 }
