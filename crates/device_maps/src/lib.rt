@@ -2,7 +2,7 @@
 #![tactic(auto)]
 
 ghost use Rattle.std.specs.Prelude.{◌≡◌, List, ℕ};
-ghost use Rattle.stream_maps.specs.declared.Change.TheVariants.{Map, Unmap};
+ghost use Rattle.ioctl_table.specs.Refusal.{number_of};
 ghost use Rattle.device_state.specs.State.{state_in};
 ghost use Rattle.device_maps.specs.Mapping.{mapped, mapped_of};
 
@@ -13,7 +13,7 @@ use stream_maps::Change;
 use stream_words::Words;
 
 // A buffer of the stream of a type is mapped or unmapped.
-fn change(
+pub fn change(
     setup: &SetupWords,
     services: &Lines,
     video: &mut Words,
@@ -22,70 +22,20 @@ fn change(
     kind: u32,
     offset: u32,
     length: u32,
-) -> u32
-    ensures { (v : List ℕ) → mapped result (state_in setup.now v services.now video.new captions.new)
+) -> Result<(), Refusal>
+    ensures { (v : List ℕ) → mapped (number_of result) (state_in setup.now v services.now video.new captions.new)
         ≡ mapped_of c (state_in setup.now v services.now video.old captions.old) kind offset length }
 {
     if setup[device_state::READY] == 0 {
-        return ioctl_table::errno(Refusal::Closed);
+        return Err(Refusal::Closed);
     }
     if kind == device_state::PICTURES {
         let size = setup[device_state::SIZE];
-        return stream_run::reply_number(stream_mmap::change(video, c, size, offset, length));
+        return stream_mmap::change(video, c, size, offset, length);
     }
     if kind == device_state::CAPTIONS {
         let size = service_sizes::io_size(services);
-        return stream_run::reply_number(stream_mmap::change(captions, c, size, offset, length));
+        return stream_mmap::change(captions, c, size, offset, length);
     }
-    ioctl_table::errno(Refusal::WrongType)
-}
-
-// A buffer of the stream of a type is mapped once more.
-pub fn map(
-    setup: &SetupWords,
-    services: &Lines,
-    video: &mut Words,
-    captions: &mut Words,
-    kind: u32,
-    offset: u32,
-    length: u32,
-) -> u32
-    ensures { (v : List ℕ) → mapped result (state_in setup.now v services.now video.new captions.new)
-        ≡ mapped_of Map (state_in setup.now v services.now video.old captions.old) kind offset length }
-{
-    change(
-        setup,
-        services,
-        video,
-        captions,
-        Change::Map,
-        kind,
-        offset,
-        length,
-    )
-}
-
-// One map of a buffer is given up.
-pub fn unmap(
-    setup: &SetupWords,
-    services: &Lines,
-    video: &mut Words,
-    captions: &mut Words,
-    kind: u32,
-    offset: u32,
-    length: u32,
-) -> u32
-    ensures { (v : List ℕ) → mapped result (state_in setup.now v services.now video.new captions.new)
-        ≡ mapped_of Unmap (state_in setup.now v services.now video.old captions.old) kind offset length }
-{
-    change(
-        setup,
-        services,
-        video,
-        captions,
-        Change::Unmap,
-        kind,
-        offset,
-        length,
-    )
+    Err(Refusal::WrongType)
 }
