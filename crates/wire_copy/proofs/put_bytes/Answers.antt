@@ -19,8 +19,8 @@ loop-k-preserved c =
     let e = c.copy_block.ensures in
     let s = a.src.now in (
       search rules,
-      ap length e ∙ length-sets l.dst (a.at + l.k) (take c.least-m.result (drop l.k s)) ∙ l.invariant.1,
-      rw e (sym (block_turn l.dst s a.at l.k c.least-m.result (search rules)) ∙ l.invariant.2),
+      ap length e ∙ length-sets l.dst (a.at + l.k) (take c.min-m.result (drop l.k s)) ∙ l.invariant.1,
+      rw e (sym (block_turn l.dst s a.at l.k c.min-m.result (search rules)) ∙ l.invariant.2),
     )
 
 pub returns : goal.returns
