@@ -26,11 +26,9 @@ pub fn put_bytes(dst: &mut [u8], at: usize, src: &[u8])
         return;
     }
     let n = src.len().min(dst.len() - at);
-    let mut k: usize = 0;
-    while k < n {
+    for k in (0..n).step_by(65536) {
         let m = (n - k).min(65536);
         copy_block(dst, at + k, src, k, m);
-        k += m;
     }
 }
 
