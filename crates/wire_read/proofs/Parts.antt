@@ -1,11 +1,12 @@
 -- Parts of a list in which a run was stored: n elements from a place on.
 use mathlib.Core.Path.{◌≡◌, sym, ap, ◌∙◌}
-use Prim.Native.Nat.{ℕ, ◌+◌, ◌≤◌, ◌<◌}
+use Prim.Native.Nat.{ℕ, ◌+◌, ◌-◌, ◌≤◌, ◌<◌}
 use native.Mathlib.Omega.{arith}
-use mathlib.Core.List.{List}
-use lib.ListN.{length, get_or, take, drop, set, length-take, length-drop, take-append-drop}
-use lib.Seq.{sets, length-sets, ext_get_or, get_or-take, get_or-drop, drop-drop}
-use Rattle.wire_read.proofs.Stores.{sets_before, sets_behind, sets_at, sets_append, sets_turn, sets_done}
+use mathlib.Core.List.{List, ◌++◌, append_assoc}
+use lib.ListN.{length, get_or, take, drop, length-take, length-drop, take-append-drop}
+use lib.Seq.{sets, sets-eq, length-sets, ext_get_or, get_or-take, get_or-drop, drop-drop}
+use borrow.Rule.Slice.PartMut.{post_of, put_mid, Post-is}
+use Rattle.wire_read.proofs.Stores.{sets_before, sets_behind, sets_at, sets_append, sets_done}
 
 -- an element of a part
 pub part_at_law : (n : ℕ) (l : List ℕ) (a i : ℕ) → i < n → get_or (take n (drop a l)) i 0 ≡ get_or l (a + i) 0
@@ -38,27 +39,13 @@ part_stored vs l at h =
     let k : i < length vs = omega (arith, length-take (length vs) (drop at (sets l at vs))) in
     part_at_law (length vs) (sets l at vs) at i k ∙ sets_at vs l at i 0 k (omega arith))
 
--- ---- n elements of a list, from a place on, stored in another
-
-module _ (l s : List ℕ) (at from n i : ℕ) where
-  -- one turn of a loop that stores them one by one
-  pub copy_turn : i < n → from + n ≤ length s
-      → sets l (at + i) (drop i (take n (drop from s)))
-      ≡ sets (set l (at + i) (get_or s (from + i) 0)) (at + (i + 1)) (drop (i + 1) (take n (drop from s)))
-  copy_turn h k =
-      rw (← part_at_law n s from i h)
-      (sets_turn l (take n (drop from s)) at i (omega (arith, length-take n (drop from s), length-drop from s)))
-
-  -- its end
-  pub copy_done : n ≤ i → sets l (at + i) (drop i (take n (drop from s))) ≡ l
-  copy_done h = sets_done l (take n (drop from s)) at i (omega (arith, length-take n (drop from s)))
-
--- stored in a list b first, and from there in l
-pub by_way_of : (l b s : List ℕ) (at from n : ℕ) → n ≤ length b → from + n ≤ length s
-    → sets l at (take n (drop 0 (sets b 0 (take n (drop from s))))) ≡ sets l at (take n (drop from s))
-by_way_of l b s at from n h k =
-    let e : length (take n (drop from s)) ≡ n = omega (arith, length-take n (drop from s), length-drop from s) in
-    rw (rw e at (part_stored (take n (drop from s)) b 0 (omega arith)))
+-- a part that was lent and written over is a run stored there
+pub part_over : (l x vs : List ℕ) (at to : ℕ) → x ≡ vs → at + length vs ≡ to → to ≤ length l → put_mid at (to - at) l x ≡ sets l at vs
+part_over l x vs at to e h k =
+    rw e
+    (sym (append_assoc (take at l) vs (post_of at (to - at) l))
+    ∙ ap (λ (r : List ℕ). take at l ++ vs ++ r) (Post-is at to l (omega arith) ∙ ap (λ (m : ℕ). drop m l) (sym h))
+    ∙ sym (sets-eq vs l at (omega arith)))
 
 -- the rest from k on stored block by block: the next m, and then the rest
 pub block_turn : (l s : List ℕ) (at k m : ℕ) → k + m ≤ length s

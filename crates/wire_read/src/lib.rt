@@ -11,24 +11,17 @@ pub fn byte_at(s: &[u8], at: usize) -> u8
     if at < s.len() { s[at] } else { 0 }
 }
 
-// Four bytes as one number, the lowest first.
-fn joined(a: u8, b: u8, c: u8, d: u8) -> u32
-    ensures { result ≡ a + 256 * b + 65536 * c + 16777216 * d }
-{
-    (a as u32) + 256 * (b as u32) + 65536 * (c as u32) + 16777216 * (d as u32)
-}
-
 // The word at a place in the slice, where it may reach past the end: a test for each byte.
 fn cut_word(s: &[u8], at: usize) -> u32
     requires { at < length s.now }
     ensures { result ≡ word_at s.now at }
 {
-    joined(
+    u32::from_le_bytes([
         byte_at(s, at),
         byte_at(s, at + 1),
         byte_at(s, at + 2),
         byte_at(s, at + 3),
-    )
+    ])
 }
 
 // The word at a place; bytes past the end count as 0. Two paths, for speed: four bytes that are all there are read with
@@ -42,7 +35,7 @@ pub fn word_at(s: &[u8], at: usize) -> u32
     if s.len() - at < 4 {
         return cut_word(s, at);
     }
-    joined(s[at], s[at + 1], s[at + 2], s[at + 3])
+    u32::from_le_bytes([s[at], s[at + 1], s[at + 2], s[at + 3]])
 }
 
 // The n bytes from a place on, or as many of them as there are.

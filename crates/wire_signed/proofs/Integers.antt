@@ -4,11 +4,10 @@ use Prim.Native.Nat.{ℕ, zero, suc, ◌+◌, ◌-◌, ◌≤◌, ◌<◌, ◌^�
 use mathlib.Core.Path.{◌≡◌, refl, sym, ap, ◌∙◌}
 use mathlib.Core.Bool.{Bool, true, false, cond, false≢true}
 use native.Mathlib.Omega.{arith}
-use native.Mathlib.Nat.{zero-add}
 use borrow.Author.Tests.{ltb-true, ltb-false, le-ltb, lt-ltb, leb-true, le-leb, lt-leb}
 use lib.Dec.{ltb, leb}
 use lib.IntN.{ℤ, pos, negsuc, ◌+ℤ◌, ◌-ℤ◌, sub_ℕ}
-use lib.Signed.{mag, lt_z, le_z}
+use lib.Signed.{mag, le_z}
 use mir.Syntax.{w32}
 use mir.Val.{to_z, of_z}
 use mir.Facts.{to_z-of_z, of_z-to_z, to_z-neg, to_z_pos, sfits_to_z}
@@ -48,29 +47,6 @@ unfolding signed
 signed_high w h k =
     let e : w ≡ 2 ^ 32 - suc (4294967295 - w) = omega arith in
     ap (to_z w32) e ∙ to_z-neg w32 (4294967295 - w) (omega arith)
-
--- -1 - n
-pub minus_one : (n : ℕ) → negsuc 0 -ℤ pos n ≡ negsuc n
-minus_one zero = refl
-minus_one (suc n) = rw zero-add
-
--- a number below zero: -1 less it, and its bits
-pub flip : (z : ℤ) → lt_z z (pos 0) ≡ true → negsuc 0 -ℤ z ≡ pos (mag z)
-flip (pos n) e = absurd (omega (arith, ltb-true n 0 e))
-flip (negsuc n) e = rw (le-ltb (suc n) (suc 0) (omega arith), one_less_law n)
-  where
-    one_less_law : (n : ℕ) → suc n - suc 0 ≡ n
-    one_less_law n = omega arith
-
-pub bits_below : (z : ℤ) → lt_z z (pos 0) ≡ true → mag z < 2 ^ 31 → 4294967295 - mag z ≡ bits z
-unfolding bits
-bits_below (pos n) e h = absurd (omega (arith, ltb-true n 0 e))
-bits_below (negsuc n) e h = omega arith
-
--- a number not below zero
-pub not_below : (z : ℤ) → lt_z z (pos 0) ≡ false → z ≡ pos (mag z)
-not_below (pos n) e = refl
-not_below (negsuc n) e = absurd (false≢true (sym e))
 
 -- ---- counted from -k
 

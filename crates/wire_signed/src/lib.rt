@@ -8,33 +8,21 @@ ghost use Rattle.wire_signed.specs.Signed.{signed, bits, biased_of, signed_at};
 pub fn as_signed(w: u32) -> i32
     ensures { result ≡ signed w }
 {
-    if w < 0x8000_0000 {
-        w as i32
-    } else {
-        -1 - ((0xffff_ffff - w) as i32)
-    }
+    w.cast_signed()
 }
 
 // The 32 bits of a signed number.
 pub fn as_bits(z: i32) -> u32
     ensures { result ≡ bits z }
 {
-    if z < 0 {
-        0xffff_ffff - ((-1 - z) as u32)
-    } else {
-        z as u32
-    }
+    z.cast_unsigned()
 }
 
 // The signed number of a word counted from -2^31 up, so that the order of signed numbers is that of unsigned ones.
 pub fn biased(w: u32) -> u32
     ensures { result ≡ biased_of (signed w) }
 {
-    if w < 0x8000_0000 {
-        w + 0x8000_0000
-    } else {
-        w - 0x8000_0000
-    }
+    w.wrapping_add(0x8000_0000)
 }
 
 // The word at a place as a signed number.

@@ -5,28 +5,19 @@ ghost use Rattle.std.specs.Prelude.{◌≡◌, ◌+◌, ◌*◌, ◌≤◌, leng
 ghost use Rattle.std.proofs.lemmas.List.Edits.{sets};
 ghost use Rattle.wire_read.specs.Words.{le32, bytes_of};
 
-// A word stored where all of it fits: with no test between them, the four stores compile to one of 32 bits.
+// A word stored where all of it fits: with no test between its bytes, it compiles to one store of 32 bits.
 fn store(dst: &mut [u8], at: usize, w: u32)
     requires { at + 4 ≤ length dst.old }
     ensures { dst.new ≡ sets dst.old at (le32 w) }
 {
-    dst[at] = (w % 256) as u8;
-    dst[at + 1] = (w / 256 % 256) as u8;
-    dst[at + 2] = (w / 65536 % 256) as u8;
-    dst[at + 3] = (w / 16777216 % 256) as u8;
+    dst[at..at + 4].copy_from_slice(&w.to_le_bytes());
 }
 
 // A word stored where it may reach past the end: as many of its bytes as fit.
 fn store_cut(dst: &mut [u8], at: usize, w: u32)
     ensures { dst.new ≡ sets dst.old at (le32 w) }
 {
-    let b = [
-        (w % 256) as u8,
-        (w / 256 % 256) as u8,
-        (w / 65536 % 256) as u8,
-        (w / 16777216 % 256) as u8,
-    ];
-    wire_copy::put_bytes(dst, at, &b);
+    wire_copy::put_bytes(dst, at, &w.to_le_bytes());
 }
 
 // A word stored in dst at a place. Two paths, for speed: a word that fits is stored with no further test.
@@ -48,12 +39,10 @@ fn store_all(dst: &mut [u8], at: usize, ws: &[u32])
     requires { at + 4 * length ws.now ≤ length dst.old }
     ensures { dst.new ≡ sets dst.old at (bytes_of ws.now) }
 {
-    let mut i: usize = 0;
     let mut k = at;
-    while i < ws.len() {
-        store(dst, k, ws[i]);
+    for &w in ws {
+        store(dst, k, w);
         k += 4;
-        i += 1;
     }
 }
 
@@ -61,15 +50,13 @@ fn store_all(dst: &mut [u8], at: usize, ws: &[u32])
 fn store_some(dst: &mut [u8], at: usize, ws: &[u32])
     ensures { dst.new ≡ sets dst.old at (bytes_of ws.now) }
 {
-    let mut i: usize = 0;
     let mut k = at;
-    while i < ws.len() {
+    for &w in ws {
         if dst.len() <= k {
             return;
         }
-        put_word(dst, k, ws[i]);
+        put_word(dst, k, w);
         k += 4;
-        i += 1;
     }
 }
 

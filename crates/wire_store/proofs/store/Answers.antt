@@ -1,15 +1,13 @@
--- The four stores are the run of the four bytes of the definition. Assumes nothing.
-use mathlib.Core.Path.{◌≡◌}
-use Prim.Native.Nat.{suc, ◌+◌}
+-- The part that the four bytes are stored in is theirs. Assumes nothing.
+use mathlib.Core.Path.{◌∙◌}
+use Prim.Native.Nat.{◌+◌}
 use native.Mathlib.Omega.{arith}
-use native.Mathlib.Numerals.{add-one}
 use Rattle.wire_read.specs.Words.{le32}
+use Rattle.wire_read.proofs.Parts.{part_over}
 use Rattle.wire_store.proofs.store.Goals as goal
 
 pub returns : goal.returns
 unfolding le32
 returns c =
-    let at = c.args.at in
-    let two : at + 2 ≡ suc (suc at) = omega arith in
-    let three : at + 3 ≡ suc (suc (suc at)) = omega arith in
-    rw (add-one, two, three)
+    let a = c.args in
+    part_over a.dst.now c.copy_from_slice.new.self (le32 a.w) a.at (a.at + 4) (c.copy_from_slice.ensures.after ∙ c.to_le_bytes.ensures) (omega arith) (omega (arith, c.requires))

@@ -7,16 +7,16 @@ use Rattle.wire_read.specs.Words.{bytes_of}
 use Rattle.wire_read.proofs.Words.{words_turn}
 use Rattle.wire_store.proofs.store_all.Goals as goal
 
-pub loop-i-preserved : goal.loop-i-preserved
-loop-i-preserved c =
-    let l = c.loop-i in
+pub loop-w-preserved : goal.loop-w-preserved
+loop-w-preserved c =
+    let l = c.loop-w in
     let ws = c.args.ws.now in
     let e = c.store.ensures in
-    (search rules, search rules, ap length e ∙ simp length-sets l.invariant.2, rw e (sym (words_turn l.dst ws l.k l.i (search rules)) ∙ l.invariant.3))
+    (search rules, ap length e ∙ simp length-sets l.invariant.1, rw e (sym (words_turn l.dst ws l.k l.w-index (search rules)) ∙ l.invariant.2))
 
 pub returns : goal.returns
 unfolding bytes_of
 returns c =
-    let l = c.loop-i in
+    let l = c.loop-w in
     let ws = c.args.ws.now in
-    rw (drop_of_length-le ws {i = l.i} (search rules)) at l.invariant.3
+    rw (drop_of_length-le ws {i = l.w-index} (search rules)) at l.invariant.2

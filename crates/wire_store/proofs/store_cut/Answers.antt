@@ -4,4 +4,4 @@ use Rattle.wire_store.proofs.store_cut.Goals as goal
 
 pub returns : goal.returns
 unfolding le32
-returns c = c.put_bytes.ensures
+returns c = rw c.to_le_bytes.ensures at c.put_bytes.ensures

@@ -10,20 +10,20 @@ use Rattle.wire_store.proofs.store_some.Goals as goal
 
 pub returns-then-dst-k : goal.returns-then-dst-k
 returns-then-dst-k c =
-    let l = c.loop-i in
+    let l = c.loop-w in
     let ws = c.args.ws.now in
-    sym (sets_out (bytes_of (drop l.i ws)) l.dst l.k (search rules)) ∙ l.invariant.2
+    sym (sets_out (bytes_of (drop l.w-index ws)) l.dst l.k (search rules)) ∙ l.invariant.1
 
-pub loop-i-preserved : goal.loop-i-preserved
-loop-i-preserved c =
-    let l = c.loop-i in
+pub loop-w-preserved : goal.loop-w-preserved
+loop-w-preserved c =
+    let l = c.loop-w in
     let ws = c.args.ws.now in
     let e = c.put_word.ensures in
-    (search rules, ap length e ∙ simp length-sets l.invariant.1, rw e (sym (words_turn l.dst ws l.k l.i (search rules)) ∙ l.invariant.2))
+    (ap length e ∙ simp length-sets l.invariant.0, rw e (sym (words_turn l.dst ws l.k l.w-index (search rules)) ∙ l.invariant.1))
 
 pub returns : goal.returns
 unfolding bytes_of
 returns c =
-    let l = c.loop-i in
+    let l = c.loop-w in
     let ws = c.args.ws.now in
-    rw (drop_of_length-le ws {i = l.i} (search rules)) at l.invariant.2
+    rw (drop_of_length-le ws {i = l.w-index} (search rules)) at l.invariant.1
