@@ -38,7 +38,6 @@ pub fn dequeue(s: &mut Words) -> Result<Filled, Refusal>
         return Err(Refusal::NothingOutgoing);
     };
     stream_moves::pop(s);
-    let _words: &[u64] = s;
-    s[HANDED] = std::num::wrapping_add_u64(s[HANDED], 1);
+    s[HANDED] = s[HANDED].wrapping_add(1);
     Ok(f)
 }

@@ -3,7 +3,7 @@ use Rattle.stream_queue.proofs.Handed.{one_handed}
 use Rattle.stream_queue.specs.Queueing.{dequeue_of}
 use Rattle.stream_words.proofs.Record.{granted_is, streaming_is}
 use Rattle.stream_words.specs.Words.{stream_in}
-use Rattle.std.proofs.Common.{◌≡◌, length, sym, rules, eq-eqb, ne_eqb}
+use Rattle.std.proofs.Common.{◌≡◌, length, refl, sym, rules, eq-eqb, ne_eqb}
 use Rattle.stream_queue.proofs.dequeue.Goals as goal
 
 pub returns-then-s-eq0 : goal.returns-then-s-eq0
@@ -30,7 +30,7 @@ unfolding dequeue_of
 returns c =
     let w = c.args.s.now in
     let long : length c.pop.new.s ≡ 208 = search rules in
-    rw (one_handed c.pop.new.s (stream_in w) c.wrapping_add_u64.result long c.pop.ensures c.wrapping_add_u64.ensures.value)
+    rw (one_handed c.pop.new.s (stream_in w) _ long c.pop.ensures refl)
     (simp (
       granted_is,
       streaming_is,
