@@ -43,8 +43,6 @@ pub fn change(s: &mut Words, c: Change, size: u32, offset: u32, length: u32) -> 
     ensures { answers (done result) (stream_in s.new) ≡ change_of c (stream_in s.old) size offset length }
 {
     let n = s[GRANTED].min(32);
-    let Some(k) = stream_slots::slot_at(n, size, offset, length) else {
-        return Err(Refusal::NoSuchBuffer);
-    };
+    let k = stream_slots::slot_at(n, size, offset, length).ok_or(Refusal::NoSuchBuffer)?;
     turn(s, c, k)
 }
