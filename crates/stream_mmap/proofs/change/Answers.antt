@@ -1,5 +1,5 @@
 -- The buffer as `slot_at` finds it, and its count as `turn` promises. Assumes nothing.
-use mathlib.Core.Path.{◌≡◌, sym, ap, ◌∙◌}
+use mathlib.Core.Path.{◌≡◌, sym, ◌∙◌}
 use native.Mathlib.Omega.{arith}
 use borrow.Author.Rules.{rules}
 use Rattle.std.specs.Prelude.{Some, None, Err}
@@ -7,8 +7,6 @@ use Rattle.ioctl_table.specs.declared.refusals.Refusal.TheVariants.{NoSuchBuffer
 use Rattle.stream_slots.proofs.At.{found_below}
 use Rattle.stream_words.specs.Words.{stream_in}
 use Rattle.stream_words.proofs.Record.{granted_is}
-use Rattle.stream_run.specs.Replies.{done}
-use Rattle.stream_run.specs.Switches.{answers}
 use Rattle.stream_mmap.proofs.Turns.{change_found}
 use Rattle.stream_mmap.proofs.change.Goals as goal
 
