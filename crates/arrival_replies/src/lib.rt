@@ -15,25 +15,22 @@ pub struct Told {
     pub buffer: u32,
 }
 
-fn plain(kind: u32, number: u32, buffer: u32) -> Told
-    ensures { result ≡ record { kind = kind; number = number; buffer = buffer } }
-{
-    Told {
-        kind,
-        number,
-        buffer,
-    }
-}
-
 // The numbers of an answer.
-pub fn answer_numbers(a: Arrival) -> Told
-    ensures { result ≡ told_of a }
-{
-    match a {
-        Arrival::Refused(why) => plain(0, ioctl_table::errno(why), 0),
-        Arrival::Ignored => plain(1, 0, 0),
-        Arrival::Damaged => plain(2, 0, 0),
-        Arrival::Dropped => plain(3, 0, 0),
-        Arrival::Stored(k, number) => plain(4, number, k),
+impl From<Arrival> for Told {
+    ghost from_gives = { λ a t. t ≡ told_of a };
+
+    fn from(a: Arrival) -> Told {
+        let (kind, number, buffer) = match a {
+            Arrival::Refused(why) => (0, ioctl_table::errno(why), 0),
+            Arrival::Ignored => (1, 0, 0),
+            Arrival::Damaged => (2, 0, 0),
+            Arrival::Dropped => (3, 0, 0),
+            Arrival::Stored(k, number) => (4, number, k),
+        };
+        Told {
+            kind,
+            number,
+            buffer,
+        }
     }
 }

@@ -31,7 +31,7 @@ pub fn arrive(
 {
     let time = stream_frames::time_of(seconds, microseconds);
     let a = device_film::arrive(setup, services, video, captions, kind, memory, frame, time);
-    arrival_replies::answer_numbers(a)
+    Told::from(a)
 }
 
 // The verdict on the film of a type.
@@ -39,5 +39,5 @@ pub fn verdict(setup: &SetupWords, video: &Words, captions: &Words, kind: u32) -
     ensures { (v l : List ℕ) → result ≡ verdict_told (state_in setup.now v l video.now captions.now) kind }
 {
     let v = device_film::verdict_of(setup, video, captions, kind);
-    stream_verdict::verdict_number(v)
+    u32::from(v)
 }

@@ -10,21 +10,12 @@ use stream_words::Time;
 pub fn in_second(time: Time) -> bool
     ensures { result ≡ in_second time.microseconds }
 {
-    if time.microseconds < 0 {
-        return false;
-    }
-    if 999999 < time.microseconds {
-        return false;
-    }
-    true
+    (0..=999_999).contains(&time.microseconds)
 }
 
 // Whether a frame of n bytes, taken at this time, is a whole picture of this image size.
 pub fn whole_picture(n: u64, size: u32, time: Time) -> bool
     ensures { result ≡ whole_picture n size time }
 {
-    if !in_second(time) {
-        return false;
-    }
-    n == size as u64
+    in_second(time) && n == size as u64
 }

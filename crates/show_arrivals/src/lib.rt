@@ -4,6 +4,7 @@
 // No contract here says more than that each function is safe and ends.
 #![tactic(auto)]
 
+use arrival_replies::Told;
 use stream_words::{Time, Words};
 
 // An event on a stream: its letter and its number, which is the microseconds of an arrival; the size of a frame, the seconds on the clock, and
@@ -43,7 +44,7 @@ fn whole(c: u8, bytes: u64, size: u32, time: Time) -> bool {
 fn taken(s: &mut Words, memory: &mut [u8], frame: &[u8], e: Event, a: &mut [u8]) -> u8 {
     let time = stream_frames::time_of(e.clock, e.number);
     let called = whole(e.letter, frame.len() as u64, e.size, time);
-    let told = arrival_replies::answer_numbers(stream_arrival::arrive(
+    let told = Told::from(stream_arrival::arrive(
         s, memory, frame, called, e.size, time,
     ));
     wire_store::put_words(a, 0, &[told.number, told.buffer]);

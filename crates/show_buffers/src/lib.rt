@@ -96,7 +96,7 @@ fn other(s: &mut Words, length: u32, c: u8, a: &mut [u8]) -> u8 {
             aged(s, 9223372036854775805);
             0
         }
-        b'v' => (stream_verdict::verdict_number(stream_verdict::film_verdict(s)) % 4 + 53) as u8,
+        b'v' => (u32::from(stream_verdict::film_verdict(s)) % 4 + 53) as u8,
         b'h' => {
             record(s, a);
             b'H'

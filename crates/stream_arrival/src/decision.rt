@@ -1,5 +1,4 @@
-// What becomes of an arrival, by the stream alone: no byte of a frame is read or written here. The words are lent as a slice, `_words`, where
-// the proof has to know how many elements they are: of an array behind a reference only such a loan tells.
+// What becomes of an arrival, by the stream alone: no byte of a frame is read or written here.
 ghost use Rattle.std.specs.Prelude.{◌≡◌};
 ghost use Rattle.stream_words.specs.Words.{stream_in};
 ghost use Rattle.stream_arrival.specs.Arrivals.{arrived_as, placed_of, accepted_of, arrival_of};
@@ -16,8 +15,7 @@ fn placed(s: &mut Words, number: u32, n: u32, time: Time) -> Arrival
     ensures { arrived_as result (stream_in s.new) ≡ placed_of (stream_in s.old) number n time }
 {
     let Some(k) = stream_line::oldest_incoming(s) else {
-        let _words: &[u64] = s;
-        s[DROPPED] = std::num::wrapping_add_u64(s[DROPPED], 1);
+        s[DROPPED] = s[DROPPED].wrapping_add(1);
         return Arrival::Dropped;
     };
     stream_fill::fill(s, number, n, time);
@@ -31,8 +29,7 @@ fn accepted(s: &mut Words, number: u32, n: u64, whole: bool, size: u32, time: Ti
     if whole & (n <= size as u64) {
         return placed(s, number, n as u32, time);
     }
-    let _words: &[u64] = s;
-    s[DAMAGED] = std::num::wrapping_add_u64(s[DAMAGED], 1);
+    s[DAMAGED] = s[DAMAGED].wrapping_add(1);
     Arrival::Damaged
 }
 
@@ -51,8 +48,7 @@ pub fn decide(s: &mut Words, lent: u64, n: u64, whole: bool, size: u32, time: Ti
         return Arrival::Refused(Refusal::RunFull);
     }
     let number = stream_words::low(s[NEXT_NUMBER]);
-    let _words: &[u64] = s;
     s[ACCEPTED] = count + 1;
-    s[NEXT_NUMBER] = std::num::wrapping_add_u32(number, 1) as u64;
+    s[NEXT_NUMBER] = number.wrapping_add(1) as u64;
     accepted(s, number, n, whole, size, time)
 }

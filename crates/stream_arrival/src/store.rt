@@ -10,15 +10,9 @@ use stream_words::{Time, Words};
 fn write(a: Arrival, size: u32, memory: &mut [u8], frame: &[u8])
     ensures { memory.new ≡ written_by a size memory.old frame.now }
 {
-    match a {
-        Arrival::Stored(k, _) => {
-            let at = stream_slots::slot_offset(k, size) as usize;
-            wire_copy::put_bytes(memory, at, frame);
-        }
-        Arrival::Refused(_) => {}
-        Arrival::Ignored => {}
-        Arrival::Damaged => {}
-        Arrival::Dropped => {}
+    if let Arrival::Stored(k, _) = a {
+        let at = stream_slots::slot_offset(k, size) as usize;
+        wire_copy::put_bytes(memory, at, frame);
     }
 }
 

@@ -1,5 +1,4 @@
-// How a frame gets its buffer. The array is lent as a slice, `_words`, where the proof has to know how many elements it has: of
-// an array behind a reference only such a loan tells.
+// How a frame gets its buffer.
 #![tactic(auto)]
 
 ghost use Rattle.std.specs.Prelude.{◌≡◌};
@@ -20,7 +19,6 @@ pub fn fill(s: &mut Words, number: u32, used: u32, time: Time)
     let p = stream_words::place(s, d);
     let seconds = wire_signed::as_bits(time.seconds);
     let microseconds = wire_signed::as_bits(time.microseconds);
-    let _words: &[u64] = s;
     s[NUMBER + p] = number as u64;
     s[USED + p] = used as u64;
     s[SECONDS + p] = seconds as u64;

@@ -29,10 +29,8 @@ pub fn any_mapped(s: &Words) -> bool
     ensures { result ≡ any_mapped (stream_in s.now).maps }
 {
     let mut found = false;
-    let mut k = 0usize;
-    while k < 32 {
-        found = found | (s[MAPS + k] != 0);
-        k += 1;
+    for k in 0..32 {
+        found |= s[MAPS + k] != 0;
     }
     found
 }

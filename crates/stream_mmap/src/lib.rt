@@ -2,7 +2,7 @@
 // not given away meanwhile.
 #![tactic(auto)]
 
-ghost use Rattle.std.specs.Prelude.{◌≡◌, ◌<◌, min, Some};
+ghost use Rattle.std.specs.Prelude.{◌≡◌, ◌<◌, Some};
 ghost use Rattle.stream_words.specs.Words.{stream_in};
 ghost use Rattle.stream_run.specs.Replies.{done};
 ghost use Rattle.stream_run.specs.Switches.{answers};
@@ -12,20 +12,11 @@ use ioctl_table::Refusal;
 use stream_maps::Change;
 use stream_words::{GRANTED, MAPS, Words};
 
-// How many buffers can be mapped: those granted. There is a count for each of 32.
-fn mappable(s: &Words) -> u64
-    ensures { result ≡ min (stream_in s.now).queues.granted 32 }
-{
-    let n = s[GRANTED];
-    if n <= 32 { n } else { 32 }
-}
-
 // The count of buffer k goes up or down by one.
 fn turn(s: &mut Words, c: Change, k: u32) -> Result<(), Refusal>
     requires { k < 32 }
     ensures { answers (done result) (stream_in s.new) ≡ changed_at c (stream_in s.old) (Some k) }
 {
-    let _words: &[u64] = s;
     let at = MAPS + k as usize;
     let n = s[at];
     match c {
@@ -46,13 +37,12 @@ fn turn(s: &mut Words, c: Change, k: u32) -> Result<(), Refusal>
     }
 }
 
-// A buffer is mapped or unmapped, by its offset and its length; frames have this size.
+// A buffer is mapped or unmapped, by its offset and its length; frames have this size. Those that can be are those granted, and there is a
+// count for each of 32.
 pub fn change(s: &mut Words, c: Change, size: u32, offset: u32, length: u32) -> Result<(), Refusal>
     ensures { answers (done result) (stream_in s.new) ≡ change_of c (stream_in s.old) size offset length }
 {
-    let n = mappable(s);
-    let Some(k) = stream_slots::slot_at(n, size, offset, length) else {
-        return Err(Refusal::NoSuchBuffer);
-    };
+    let n = s[GRANTED].min(32);
+    let k = stream_slots::slot_at(n, size, offset, length).ok_or(Refusal::NoSuchBuffer)?;
     turn(s, c, k)
 }

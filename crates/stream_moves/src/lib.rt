@@ -1,5 +1,4 @@
-// How buffers move between the queues. The array is lent as a slice, `_words`, where the proof has to know how many elements it has: of
-// an array behind a reference only such a loan tells.
+// How buffers move between the queues.
 #![tactic(auto)]
 
 ghost use Rattle.std.specs.Prelude.{◌≡◌};
@@ -13,7 +12,6 @@ use stream_words::{GRANTED, HEAD, HOLDING, INDEX, LINED, Words};
 pub fn empty(s: &mut Words, granted: u64)
     ensures { stream_in s.new ≡ on_queues (λ q. emptied granted) (stream_in s.old) }
 {
-    let _words: &[u64] = s;
     s[GRANTED] = granted;
     s[HOLDING] = 0;
     s[LINED] = 0;
@@ -29,7 +27,6 @@ pub fn push(s: &mut Words, k: u32)
     }
     let d = stream_words::holding(s);
     let p = stream_words::place(s, n);
-    let _words: &[u64] = s;
     s[INDEX + p] = k as u64;
     s[HOLDING] = d;
     s[LINED] = n + 1;
@@ -44,7 +41,6 @@ pub fn pop(s: &mut Words)
         return;
     }
     let n = stream_words::lined(s);
-    let _words: &[u64] = s;
     s[HEAD] = (s[HEAD] % 32 + 1) % 32;
     s[HOLDING] = d - 1;
     s[LINED] = n - 1;

@@ -34,11 +34,8 @@ pub fn dequeue(s: &mut Words) -> Result<Filled, Refusal>
     if s[STREAMING] == 0 {
         return Err(Refusal::NotStreaming);
     }
-    let Some(f) = stream_line::oldest_outgoing(s) else {
-        return Err(Refusal::NothingOutgoing);
-    };
+    let f = stream_line::oldest_outgoing(s).ok_or(Refusal::NothingOutgoing)?;
     stream_moves::pop(s);
-    let _words: &[u64] = s;
-    s[HANDED] = std::num::wrapping_add_u64(s[HANDED], 1);
+    s[HANDED] = s[HANDED].wrapping_add(1);
     Ok(f)
 }

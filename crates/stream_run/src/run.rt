@@ -1,5 +1,4 @@
-// A run begins, and ends. The array is lent as a slice, `_words`, where the proof has to know how many elements it has: of an array behind
-// a reference only such a loan tells.
+// A run begins, and ends.
 ghost use Rattle.std.specs.Prelude.{◌≡◌};
 ghost use Rattle.stream_words.specs.Words.{stream_in};
 ghost use Rattle.stream_run.specs.Stream.{fresh_stream, started, stopped};
@@ -21,7 +20,6 @@ pub fn fresh(length: u64) -> Words
 pub(crate) fn begin(s: &mut Words)
     ensures { stream_in s.new ≡ started (stream_in s.old) }
 {
-    let _words: &[u64] = s;
     s[STREAMING] = 1;
     s[RAN] = 1;
     s[ACCEPTED] = 0;
@@ -41,7 +39,6 @@ pub(crate) fn end(s: &mut Words, granted: u64)
         return;
     }
     let n = stream_line::outgoing_count(s);
-    let _words: &[u64] = s;
     s[STREAMING] = 0;
     s[DISCARDED] = n;
     stream_moves::empty(s, granted);

@@ -1,5 +1,5 @@
 // Buffers are granted, a run begins, a run ends: each with its refusals in the order of the checks.
-ghost use Rattle.std.specs.Prelude.{◌≡◌, min};
+ghost use Rattle.std.specs.Prelude.{◌≡◌};
 ghost use Rattle.stream_words.specs.Words.{stream_in};
 ghost use Rattle.stream_run.specs.Replies.{done, granted};
 ghost use Rattle.stream_run.specs.Replies.Reply.{Done};
@@ -9,12 +9,6 @@ use crate::run;
 use ioctl_table::Refusal;
 use stream_words::{GRANTED, LENGTH, STREAMING, Words};
 
-fn least(a: u64, b: u64) -> u64
-    ensures { result ≡ min a b }
-{
-    if a <= b { a } else { b }
-}
-
 // How many buffers of this frame size are granted to one who asks for a count of them.
 fn grant(length: u64, count: u32, size: u32) -> u32
     ensures { result ≡ grant_of length count size }
@@ -23,7 +17,7 @@ fn grant(length: u64, count: u32, size: u32) -> u32
     if slot == 0 {
         return 0;
     }
-    least(count as u64, least(32, length / slot)) as u32
+    (count as u64).min(32).min(length / slot) as u32
 }
 
 // Buffers are asked for. All there were go first, and so does a run; while one is on, only a count of 0 is taken. While a buffer is mapped

@@ -14,12 +14,10 @@ fn first_place(s: &Words, from: u64, to: u64, k: u32) -> u64
     requires to_bound { to ≤ 32 }
     ensures { FoundIn s.now k from to result }
 {
-    let mut p = from;
-    while p < to {
+    for p in from..to {
         if stream_words::low(s[INDEX + p as usize]) == k {
             return p;
         }
-        p += 1;
     }
     to
 }

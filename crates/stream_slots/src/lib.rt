@@ -8,7 +8,7 @@ ghost use Rattle.stream_slots.specs.Slot.{slot_size, slot_offset, slot_at};
 pub fn slot_size(size: u32) -> u64
     ensures { result ≡ slot_size size }
 {
-    (size as u64 + 4095) / 4096 * 4096
+    (size as u64).next_multiple_of(4096)
 }
 
 // Where buffer k starts.

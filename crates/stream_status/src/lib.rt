@@ -36,8 +36,7 @@ fn place_flags(st: Standing) -> u32
 fn flags(mapped: bool, st: Standing) -> u32
     ensures { result ≡ flags_of mapped st }
 {
-    let place = place_flags(st);
-    if mapped { 1 + place } else { place }
+    u32::from(mapped) + place_flags(st)
 }
 
 // The frame in it.
@@ -45,9 +44,8 @@ fn held(st: Standing) -> Filled
     ensures { result ≡ frame_for st }
 {
     match st {
-        Standing::Dequeued => stream_line::no_frame(),
-        Standing::Incoming => stream_line::no_frame(),
         Standing::Outgoing(f) => f,
+        Standing::Dequeued | Standing::Incoming => stream_line::no_frame(),
     }
 }
 

@@ -37,13 +37,15 @@ pub fn film_verdict(s: &Words) -> Verdict
 }
 
 // The number of a verdict.
-pub fn verdict_number(v: Verdict) -> u32
-    ensures { result ≡ verdict_number v }
-{
-    match v {
-        Verdict::Running => 0,
-        Verdict::Blank => 1,
-        Verdict::Gaps => 2,
-        Verdict::Complete => 3,
+impl From<Verdict> for u32 {
+    ghost from_gives = { λ v n. n ≡ verdict_number v };
+
+    fn from(v: Verdict) -> u32 {
+        match v {
+            Verdict::Running => 0,
+            Verdict::Blank => 1,
+            Verdict::Gaps => 2,
+            Verdict::Complete => 3,
+        }
     }
 }

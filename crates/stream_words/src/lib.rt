@@ -83,24 +83,21 @@ pub const MAPS: usize = 176;
 pub fn low(n: u64) -> u32
     ensures { result ≡ low n }
 {
-    (n % 4294967296) as u32
+    (n & 0xffff_ffff) as u32
 }
 
 // How many buffers stand in the line.
 pub fn lined(s: &Words) -> u64
     ensures { result ≡ lined_in s.now }
 {
-    let n = s[LINED];
-    if n <= 32 { n } else { 32 }
+    s[LINED].min(32)
 }
 
 // How many of them hold a frame.
 pub fn holding(s: &Words) -> u64
     ensures { result ≡ holding_in s.now }
 {
-    let n = lined(s);
-    let d = s[HOLDING];
-    if d <= n { d } else { n }
+    s[HOLDING].min(lined(s))
 }
 
 // The place in the rings of the ith in line.

@@ -2,10 +2,10 @@
 use Rattle.picture_rules.specs.Picture.{whole_picture}
 use Rattle.picture_rules.proofs.whole_picture.Goals as goal
 
-pub returns-then-not-in_second : goal.returns-then-not-in_second
+pub returns-then-in_second : goal.returns-then-in_second
 unfolding whole_picture
-returns-then-not-in_second c = rw (← c.in_second.ensures) (simp c.if-not-in_second.true)
+returns-then-in_second c = rw (← c.in_second.ensures) (simp c.if-in_second.true)
 
-pub returns : goal.returns
+pub returns-else-in_second : goal.returns-else-in_second
 unfolding whole_picture
-returns c = rw (← c.in_second.ensures) (simp c.if-not-in_second.false)
+returns-else-in_second c = rw (← c.in_second.ensures) (simp c.if-in_second.false)

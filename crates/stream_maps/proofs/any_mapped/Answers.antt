@@ -18,17 +18,17 @@ abbrev among : List ℕ → ℕ → Bool
 among s k = any (λ n. not (eqb n 0)) (tab (λ j. get_or s (176 + j) 0) k)
 
 pub loop-k-init : goal.loop-k-init
-loop-k-init c = (search rules, sym (any_none (λ n. not (eqb n 0)) _ 0 (λ i l. absurd (omega arith))))
+loop-k-init c = sym (any_none (λ n. not (eqb n 0)) _ 0 (λ i l. absurd (omega arith)))
 
 pub loop-k-preserved : goal.loop-k-preserved
 loop-k-preserved c =
     let w = c.args.s.now in
     let l = c.loop-k in
-    (search rules, ap (λ (b : Bool). b || not (eqb (get_or w (176 + l.k) 0) 0)) l.invariant.1 ∙ sym (any_more (λ n. not (eqb n 0)) (λ j. get_or w (176 + j) 0) l.k))
+    ap (λ (b : Bool). b || not (eqb (get_or w (176 + l.k) 0) 0)) l.invariant ∙ sym (any_more (λ n. not (eqb n 0)) (λ j. get_or w (176 + j) 0) l.k)
 
 pub returns : goal.returns
 unfolding any_mapped stream_in maps_in
 returns c =
     let l = c.loop-k in
     let e : l.k ≡ 32 = search rules in
-    l.invariant.1 ∙ ap (among c.args.s.now) e
+    l.invariant ∙ ap (among c.args.s.now) e

@@ -15,5 +15,5 @@ unfolding accepted_of
 returns c =
     let w = c.args.s.now in
     let long : length w ≡ 208 = search rules in
-    ap (λ (s : Stream). arrived_as Damaged s) (stream_set w 5 c.wrapping_add_u64.result long (omega arith))
-    ∙ simp (c.if-whole-n.false, damaged_is, c.wrapping_add_u64.ensures.value)
+    ap (λ (s : Stream). arrived_as Damaged s) (stream_set w 5 _ long (omega arith))
+    ∙ simp (c.if-whole-n.false, damaged_is)

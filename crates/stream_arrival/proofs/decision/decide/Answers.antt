@@ -2,7 +2,7 @@
 use Rattle.stream_arrival.proofs.Cases.{counted_words, arrival_accepted}
 use Rattle.stream_arrival.specs.Arrivals.{arrival_of}
 use Rattle.stream_words.specs.Words.{stream_in}
-use Rattle.std.proofs.Common.{◌≡◌, length, rules, eq-eqb, ne_eqb, le-leb}
+use Rattle.std.proofs.Common.{◌≡◌, length, refl, rules, eq-eqb, ne_eqb, le-leb}
 use borrow.Author.Tests.{lt-leb}
 use Rattle.stream_arrival.proofs.decision.decide.Goals as goal
 
@@ -26,5 +26,5 @@ returns c =
     let w = a.s.now in
     let long : length w ≡ 208 = search rules in
     arrival_accepted (stream_in w) a.lent a.n a.whole a.size a.time (eq-eqb _ _ c.if-lent-s.false) (ne_eqb _ _ c.if-s-eq0.false) (lt-leb _ _ c.if-count-ge-LIMIT.false)
-    _ (counted_words w c.low-number.result c.wrapping_add_u32.result long c.low-number.ensures c.wrapping_add_u32.ensures.value)
+    _ (counted_words w c.low-number.result _ long c.low-number.ensures refl)
     _ c.low-number.ensures _ c.accepted.ensures

@@ -11,8 +11,8 @@ unfolding placed_of
 returns-in_default c =
     let w = c.args.s.now in
     let long : length w ≡ 208 = search rules in
-    ap (λ (s : Stream). arrived_as Dropped s) (stream_set w 6 c.wrapping_add_u64.result long (omega arith))
-    ∙ simp (sym c.in_default.ensures, dropped_is, c.wrapping_add_u64.ensures.value)
+    ap (λ (s : Stream). arrived_as Dropped s) (stream_set w 6 _ long (omega arith))
+    ∙ simp (sym c.in_default.ensures, dropped_is)
 
 pub returns : goal.returns
 unfolding placed_of
