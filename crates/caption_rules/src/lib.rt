@@ -1,25 +1,26 @@
 // When a frame of the caption lines is whole.
 #![tactic(auto)]
 
-ghost use Rattle.std.specs.Prelude.{◌≡◌, ◌&&◌, ◌/◌, eqb, ltb, length, get_or};
+ghost use Rattle.std.specs.Prelude.{◌≡◌, ◌&&◌, ◌/◌, ◌<◌, length, MatchOption};
 ghost use Rattle.service_rules.specs.Services.{has};
 ghost use Rattle.caption_rules.specs.Caption.{is_service, place_of, good_records, whole_caption};
 
 use service_rules::Lines;
 use stream_words::Time;
 
-// Where the line of a record stands among the lines, 48 if nowhere.
-fn place(field: u32, line: u32) -> usize
-    ensures { result ≡ place_of field line }
+// Where the line of a record stands among the lines, if anywhere.
+fn place(field: u32, line: u32) -> Option<usize>
+    ensures { MatchOption result (place_of field line ≡ 48) (λ p. (p < 48) × (p ≡ place_of field line)) }
 {
     if (field < 2) & (line < 24) {
-        (24 * field + line) as usize
+        Some((24 * field + line) as usize)
     } else {
-        48
+        None
     }
 }
 
-// Whether a number is the bit of a service, and the set has it.
+// Whether a number is the bit of a service, and the set has it. A match on the number itself: an enum of the services would bring a second match with the
+// same four numbers, and each division by a number known here is a test of one bit.
 fn carries(set: u16, id: u32) -> bool
     ensures { result ≡ (is_service id && has set id) }
 {
@@ -32,34 +33,20 @@ fn carries(set: u16, id: u32) -> bool
     }
 }
 
-// Whether a record of a service may stand on this line: the line was not seen before, and carries the service.
-fn fresh(lines: &Lines, seen: &[u8; 48], p: usize, id: u32) -> bool
-    ensures { result ≡ ((ltb p 48 && (is_service id && has (get_or lines.now p 0) id)) && eqb (get_or seen.now p 0) 0) }
-{
-    if 48 <= p {
-        return false;
-    }
-    carries(lines[p], id) & (seen[p] == 0)
-}
-
-// Whether every record is negotiated and no line of a field comes twice. Each record is looked at once: the lines seen so far are marked. It is read in
-// a part of its own, for speed: the compiler knows how long that is, and no word needs a test.
+// Whether every record is negotiated and no line of a field comes twice. Each record is looked at once: the lines seen so far are marked. It is a slice of
+// its own, for speed: the compiler knows how long that is, and no word needs a test.
 fn good_records(lines: &Lines, frame: &[u8]) -> bool
     ensures { result ≡ good_records lines.now frame.now (length frame.now / 64) }
 {
-    let mut seen: [u8; 48] = [0; 48];
-    let n = frame.len() / 64;
-    let mut i: usize = 0;
-    while i < n {
-        let at = 64 * i;
-        let end = at + 64;
-        let record = &frame[at..end];
-        let p = place(wire_read::word_at(record, 4), wire_read::word_at(record, 8));
-        if !fresh(lines, &seen, p, wire_read::word_at(record, 0)) {
+    let mut seen = [false; 48];
+    for record in frame.chunks_exact(64) {
+        let Some(p) = place(wire_read::word_at(record, 4), wire_read::word_at(record, 8)) else {
+            return false;
+        };
+        if seen[p] | !carries(lines[p], wire_read::word_at(record, 0)) {
             return false;
         }
-        seen[p] = 1;
-        i += 1;
+        seen[p] = true;
     }
     true
 }

@@ -11,8 +11,9 @@ fn put_half(dst: &mut [u8], at: usize, h: u16)
     requires { at + 2 ≤ length dst.old }
     ensures { dst.new ≡ sets dst.old at (le16 h) }
 {
-    dst[at] = (h % 256) as u8;
-    dst[at + 1] = (h / 256 % 256) as u8;
+    let [low, high] = h.to_le_bytes();
+    dst[at] = low;
+    dst[at + 1] = high;
 }
 
 // The sets of the lines stored from a place on.
@@ -20,10 +21,8 @@ fn put_lines(dst: &mut [u8], at: usize, lines: &[u16])
     requires { at + 2 * length lines.now ≤ length dst.old }
     ensures { dst.new ≡ sets dst.old at (halves_of lines.now) }
 {
-    let mut k: usize = 0;
-    while k < lines.len() {
-        put_half(dst, at + 2 * k, lines[k]);
-        k += 1;
+    for (k, line) in lines.iter().enumerate() {
+        put_half(dst, at + 2 * k, *line);
     }
 }
 

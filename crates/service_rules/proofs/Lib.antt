@@ -2,3 +2,4 @@ pub mod Counts
 pub mod Members
 pub mod Laws
 pub mod Ranks
+pub mod Made

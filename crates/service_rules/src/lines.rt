@@ -28,25 +28,17 @@ pub fn negotiate(set: u16, asked: &Lines) -> Lines
     ensures { result ≡ negotiated_lines set asked.now }
 {
     let offered = offered_lines();
-    let mut lines: Lines = [0; 48];
-    let mut k: usize = 0;
-    while k < 48 {
-        lines[k] = sets::common(asked_at(set, asked[k]), offered[k]);
-        k += 1;
-    }
-    lines
+    std::array::from_fn(|k| sets::common(asked_at(set, asked[k]), offered[k]))
 }
 
-// Whether a service is on one of the lines.
+// Whether a service is on one of the lines. Each is looked at, for speed: with no way out of the loop the compiler looks at many at once.
 fn on_a_line(lines: &Lines, bit: u16) -> bool
     requires { 0 < bit }
     ensures { result ≡ any_below 48 (λ k. has (get_or lines.now k 0) bit) }
 {
     let mut found = false;
-    let mut k: usize = 0;
-    while k < 48 {
-        found = found | sets::has(lines[k], bit);
-        k += 1;
+    for line in lines {
+        found |= sets::has(*line, bit);
     }
     found
 }
@@ -55,10 +47,5 @@ fn on_a_line(lines: &Lines, bit: u16) -> bool
 pub fn union_of(lines: &Lines) -> u16
     ensures { result ≡ union_of lines.now }
 {
-    sets::gather(
-        on_a_line(lines, sets::TELETEXT_B),
-        on_a_line(lines, sets::VPS),
-        on_a_line(lines, sets::CAPTION_525),
-        on_a_line(lines, sets::WSS_625),
-    )
+    sets::gather(|bit| on_a_line(lines, bit))
 }

@@ -18,13 +18,7 @@ fn half_at(s: &[u8], at: usize) -> u16
 fn asked_lines(argument: &[u8]) -> Lines
     ensures { result ≡ lines_at argument.now 6 }
 {
-    let mut lines: Lines = [0; 48];
-    let mut k: usize = 0;
-    while k < 48 {
-        lines[k] = half_at(argument, 6 + 2 * k);
-        k += 1;
-    }
-    lines
+    std::array::from_fn(|k| half_at(argument, 6 + 2 * k))
 }
 
 // The lines that answer what the argument of S_FMT or TRY_FMT asks for.

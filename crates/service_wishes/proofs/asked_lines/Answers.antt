@@ -1,7 +1,9 @@
--- The invariant: the lines passed are those of the argument. Assumes nothing.
-use native.Mathlib.Omega.{arith}
-use Rattle.wire_read.proofs.Tabs.{tab_is}
+-- What is called for each line. Assumes nothing.
+use Prim.Native.Nat.{◌+◌, ◌*◌}
+use borrow.Author.Rules.{rules}
+use Rattle.service_rules.proofs.Made.{made_table}
+use Rattle.service_replies.specs.Halves.{half_at}
 use Rattle.service_wishes.proofs.asked_lines.Goals as goal
 
 pub returns : goal.returns
-returns c = let l = c.loop-k.invariant in tab_is _ 0 _ 48 l.1 (λ j h. l.2 j (omega arith))
+returns c = made_table {h = λ k. half_at c.args.argument.now (6 + 2 * k)} (λ k r f' m. (search rules, search rules)) _ 0 48 c.from_fn.ensures.items

@@ -1,5 +1,5 @@
 -- Bytes are below 256, so what is left of the word is its lower half. Assumes nothing.
-use native.Mathlib.Omega.{arith}
+use borrow.Author.Rules.{rules}
 use Prim.Native.Nat.{◌+◌}
 use Rattle.service_replies.proofs.Halves.{low_half}
 use Rattle.service_wishes.proofs.half_at.Goals as goal
@@ -7,4 +7,4 @@ use Rattle.service_wishes.proofs.half_at.Goals as goal
 pub returns : goal.returns
 returns c =
     let a = c.args in
-    rw c.word_at.ensures (low_half a.s.now a.at (omega (arith, c.shared_slice_known-1.given a.at)) (omega (arith, c.shared_slice_known-1.given (a.at + 1))))
+    rw c.word_at.ensures (low_half a.s.now a.at (search rules) (search rules))

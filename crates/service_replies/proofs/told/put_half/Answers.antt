@@ -5,4 +5,4 @@ use Rattle.service_replies.proofs.told.put_half.Goals as goal
 
 pub returns : goal.returns
 unfolding le16
-returns c = rw add-one
+returns c = rw (add-one, c.to_le_bytes.ensures)

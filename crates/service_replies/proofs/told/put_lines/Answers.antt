@@ -13,11 +13,11 @@ loop-k-preserved c =
     let a = c.args in
     let hs = a.lines.now in
     let e = c.put_half.ensures in
-    (search rules, ap length e ∙ simp length-sets l.invariant.1, rw e (sym (halves_turn l.dst hs a.at l.k (search rules)) ∙ l.invariant.2))
+    (ap length e ∙ simp length-sets l.invariant.0, rw e (sym (halves_turn l.dst hs a.at l.k (search rules)) ∙ l.invariant.1))
 
 pub returns : goal.returns
 unfolding halves_of
 returns c =
     let l = c.loop-k in
     let hs = c.args.lines.now in
-    rw (drop_of_length-le hs {i = l.k} (search rules)) at l.invariant.2
+    rw (drop_of_length-le hs {i = l.k} (search rules)) at l.invariant.1

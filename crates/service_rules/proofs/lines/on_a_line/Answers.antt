@@ -1,13 +1,12 @@
 -- The invariant: found is what the lines passed say. Assumes nothing.
 use mathlib.Core.Path.{refl}
-use native.Mathlib.Omega.{arith}
 use Rattle.sheet_rules.specs.Folds.{any_below}
 use Rattle.sheet_rules.proofs.Folding.{any_more}
 use Rattle.service_rules.proofs.lines.on_a_line.Goals as goal
 
-pub loop-k-init : goal.loop-k-init
+pub loop-line-init : goal.loop-line-init
 unfolding any_below
-loop-k-init c = (omega arith, refl)
+loop-line-init c = refl
 
-pub loop-k-preserved : goal.loop-k-preserved
-loop-k-preserved c = (omega arith, rw any_more (cc))
+pub loop-line-preserved : goal.loop-line-preserved
+loop-line-preserved c = rw any_more (cc)

@@ -1,15 +1,11 @@
 -- Each service by the lines. Assumes nothing.
-use Rattle.service_rules.specs.Services.{set_of}
+use borrow.Author.Rules.{rules}
+use lib.ListN.{get_or}
+use Rattle.sheet_rules.specs.Folds.{any_below}
+use Rattle.service_rules.specs.Services.{has}
 use Rattle.service_rules.specs.Negotiation.{union_of}
 use Rattle.service_rules.proofs.lines.union_of.Goals as goal
 
 pub returns : goal.returns
-unfolding union_of set_of
-returns c =
-    rw (
-      c.gather.ensures,
-      c.on_a_line-4.ensures,
-      c.on_a_line-3.ensures,
-      c.on_a_line-2.ensures,
-      c.on_a_line.ensures,
-    )
+unfolding union_of
+returns c = c.gather.ensures (λ bit. any_below 48 (λ k. has (get_or c.args.lines.now k 0) bit)) (λ bit r m. search rules)
