@@ -1,4 +1,5 @@
 pub mod Answers
+pub mod Changes
+pub mod Kinds
 pub mod Setup
 pub mod State
-pub mod Changes

@@ -4,9 +4,11 @@
 #![tactic(auto)]
 
 ghost use Rattle.std.specs.Prelude.{◌≡◌};
+ghost use Rattle.device_state.specs.Kinds.{kind_of};
 ghost use Rattle.device_state.specs.Setup.{setup_in, closed_setup, opening_setup};
 
 use control_value_rules::Values;
+use ioctl_table::Refusal;
 use service_rules::Lines;
 use sheet_copy::Sheet;
 use stream_words::Words;
@@ -25,6 +27,27 @@ pub const SIZE: usize = 5;
 pub const PICTURES: u32 = 1;
 
 pub const CAPTIONS: u32 = 6;
+
+// What a stream carries, as its type names it.
+#[derive(Clone, Copy)]
+pub enum Kind {
+    Pictures,
+    Captions,
+}
+
+impl TryFrom<u32> for Kind {
+    type Error = Refusal;
+
+    ghost try_from_gives = { λ n r. r ≡ kind_of n };
+
+    fn try_from(n: u32) -> Result<Kind, Refusal> {
+        match n {
+            PICTURES => Ok(Kind::Pictures),
+            CAPTIONS => Ok(Kind::Captions),
+            _ => Err(Refusal::WrongType),
+        }
+    }
+}
 
 // A device: the copy of its sheet, its setup, the values of its controls, its streams of pictures and of captions, and the services in force
 // on each sliced line.

@@ -7,7 +7,7 @@ ghost use Rattle.device_state.specs.State.{State, with_settings};
 ghost use Rattle.device_state.specs.Answers.{answer};
 ghost use Rattle.request_topics.specs.Request.{call_answer};
 
-use device_state::{CAPTIONS, PICTURES, SetupWords};
+use device_state::{CAPTIONS, Kind, SetupWords};
 use ioctl_table::Refusal;
 use service_rules::Lines;
 
@@ -20,16 +20,11 @@ pub(crate) fn g_fmt(
     ensures { (s : List ℕ) (d : State) → answer (number_of result) (with_settings d (setup_in setup.now) services.now) argument.new
         ≡ call_answer GFmt s (with_settings d (setup_in setup.now) services.now) argument.old }
 {
-    let kind = wire_read::word_at(argument, 0);
-    if kind == PICTURES {
-        format_calls::g_fmt(setup, argument);
-        return Ok(());
+    match Kind::try_from(wire_read::word_at(argument, 0))? {
+        Kind::Pictures => format_calls::g_fmt(setup, argument),
+        Kind::Captions => service_calls::g_fmt(services, CAPTIONS, argument),
     }
-    if kind == CAPTIONS {
-        service_calls::g_fmt(services, CAPTIONS, argument);
-        return Ok(());
-    }
-    Err(Refusal::WrongType)
+    Ok(())
 }
 
 // Another format, or other services, while that stream has no buffers; so many are granted to pictures and to captions.
@@ -44,28 +39,19 @@ pub(crate) fn s_fmt(
     ensures { (d : State) → d.video.queues.granted ≡ pictures → d.captions.queues.granted ≡ captions → answer (number_of result) (with_settings d (setup_in setup.new) services.new) argument.new
         ≡ call_answer SFmt sheet.now (with_settings d (setup_in setup.old) services.old) argument.old }
 {
-    let kind = wire_read::word_at(argument, 0);
-    if kind == PICTURES {
-        return negotiation_calls::s_fmt(sheet, setup, pictures, argument);
+    match Kind::try_from(wire_read::word_at(argument, 0))? {
+        Kind::Pictures => negotiation_calls::s_fmt(sheet, setup, pictures, argument),
+        Kind::Captions => service_calls::s_fmt(services, CAPTIONS, captions, argument),
     }
-    if kind == CAPTIONS {
-        return service_calls::s_fmt(services, CAPTIONS, captions, argument);
-    }
-    Err(Refusal::WrongType)
 }
 
 // What S_FMT would set.
 pub(crate) fn try_fmt(sheet: &[u8], argument: &mut [u8]) -> Result<(), Refusal>
     ensures { (d : State) → answer (number_of result) d argument.new ≡ call_answer TryFmt sheet.now d argument.old }
 {
-    let kind = wire_read::word_at(argument, 0);
-    if kind == PICTURES {
-        negotiation_calls::try_fmt(sheet, argument);
-        return Ok(());
+    match Kind::try_from(wire_read::word_at(argument, 0))? {
+        Kind::Pictures => negotiation_calls::try_fmt(sheet, argument),
+        Kind::Captions => service_calls::try_fmt(CAPTIONS, argument),
     }
-    if kind == CAPTIONS {
-        service_calls::try_fmt(CAPTIONS, argument);
-        return Ok(());
-    }
-    Err(Refusal::WrongType)
+    Ok(())
 }

@@ -7,7 +7,7 @@ ghost use Rattle.device_state.specs.Answers.{answer};
 ghost use Rattle.request_topics.specs.Request.{stream_call};
 
 use crate::on_stream::OnStream;
-use device_state::{CAPTIONS, PICTURES};
+use device_state::{CAPTIONS, Kind, PICTURES};
 use ioctl_table::Refusal;
 use service_rules::Lines;
 use stream_words::Words;
@@ -25,13 +25,13 @@ pub(crate) fn by_type<C: OnStream>(
         → answer (number_of result) (with_streams d (stream_in video.new) (stream_in captions.new)) argument.new
         ≡ stream_call C.answers at (with_streams d (stream_in video.old) (stream_in captions.old)) argument.old }
 {
-    let kind = wire_read::word_at(argument, at);
-    if kind == PICTURES {
-        return C::call(video, PICTURES, size, argument);
+    match Kind::try_from(wire_read::word_at(argument, at))? {
+        Kind::Pictures => C::call(video, PICTURES, size, argument),
+        Kind::Captions => C::call(
+            captions,
+            CAPTIONS,
+            service_sizes::io_size(services),
+            argument,
+        ),
     }
-    if kind == CAPTIONS {
-        let size = service_sizes::io_size(services);
-        return C::call(captions, CAPTIONS, size, argument);
-    }
-    Err(Refusal::WrongType)
 }

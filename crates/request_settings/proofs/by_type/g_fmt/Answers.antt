@@ -1,12 +1,13 @@
--- By the type, what the handler of each promises. Assumes nothing.
-use mathlib.Core.Path.{◌∙◌, sym}
-use Rattle.device_state.proofs.Typed.{by_pictures}
+-- Of pictures, what their handler promises. Assumes nothing.
+use mathlib.Core.Path.{◌∙◌, ap, sym}
+use Rattle.std.specs.Prelude.{Ok}
+use Rattle.device_state.proofs.Typed.{named_pictures}
 use Rattle.device_state.specs.Setup.{setup_in}
 use Rattle.device_state.specs.State.{with_settings}
 use Rattle.request_settings.proofs.by_type.g_fmt.Goals as goal
 
-pub returns-then-kind-eq-PICTURES : goal.returns-then-kind-eq-PICTURES
-returns-then-kind-eq-PICTURES c s x =
+pub returns-in-Pictures : goal.returns-in-Pictures
+returns-in-Pictures c s x =
     let a = c.args in
     let d = with_settings x (setup_in a.setup.now) a.services.now in
-    (c.g_fmt.ensures d) ∙ sym (by_pictures 0 d a.argument.now _ _ c.word_at-kind.ensures c.if-kind-eq-PICTURES.true)
+    (c.g_fmt.ensures d) ∙ sym (named_pictures 0 d a.argument.now _ _ c.word_at.ensures c.try_from.ensures (c.in_ok-try_from.was ∙ ap Ok c.in-Pictures.is))
