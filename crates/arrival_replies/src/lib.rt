@@ -30,7 +30,7 @@ pub fn answer_numbers(a: Arrival) -> Told
     ensures { result ≡ told_of a }
 {
     match a {
-        Arrival::Refused(why) => plain(0, ioctl_table::errno(why), 0),
+        Arrival::Refused(why) => plain(0, u32::from(why), 0),
         Arrival::Ignored => plain(1, 0, 0),
         Arrival::Damaged => plain(2, 0, 0),
         Arrival::Dropped => plain(3, 0, 0),
