@@ -6,20 +6,19 @@ ghost use Rattle.device_state.specs.State.{State, with_values};
 ghost use Rattle.device_state.specs.Answers.{answer};
 ghost use Rattle.control_calls.specs.Controls.{g_ctrl_of, s_ctrl_of};
 
-use control_value_rules::{Reading, Setting, Values};
+use control_value_rules::{Setting, Values};
 
 // The value of a control.
 pub fn g_ctrl(sheet: &[u8], values: &Values, argument: &mut [u8]) -> u32
     ensures { (d : State) → answer result (with_values d values.now) argument.new ≡ g_ctrl_of sheet.now (with_values d values.now) argument.old }
 {
     let id = wire_read::word_at(argument, 0);
-    let reading = control_value_rules::read(sheet, values, id);
-    match reading {
-        Reading::Value(v) => {
+    match control_value_rules::read(sheet, values, id) {
+        Ok(v) => {
             control_replies::put_value(argument, id, v);
             0
         }
-        Reading::Refused(why) => ioctl_table::errno(why),
+        Err(why) => ioctl_table::errno(why),
     }
 }
 
@@ -38,14 +37,13 @@ pub fn s_ctrl(sheet: &[u8], values: &mut Values, argument: &mut [u8]) -> u32
     ensures { (d : State) → answer result (with_values d values.new) argument.new ≡ s_ctrl_of sheet.now (with_values d values.old) argument.old }
 {
     let id = wire_read::word_at(argument, 0);
-    let setting = control_value_rules::set(sheet, id, wire_read::word_at(argument, 4));
-    match setting {
-        Setting::Stored(k, v) => {
+    match control_value_rules::set(sheet, id, wire_read::word_at(argument, 4)) {
+        Ok(Setting::Stored(k, v)) => {
             keep(values, k, v);
             control_replies::put_value(argument, id, v);
             0
         }
-        Setting::Pressed => 0,
-        Setting::Refused(why) => ioctl_table::errno(why),
+        Ok(Setting::Pressed) => 0,
+        Err(why) => ioctl_table::errno(why),
     }
 }

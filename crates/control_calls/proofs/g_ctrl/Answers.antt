@@ -2,11 +2,11 @@
 use Rattle.control_calls.proofs.Cases.{read_value, read_refused}
 use Rattle.control_calls.proofs.g_ctrl.Goals as goal
 
-pub returns-in-Value : goal.returns-in-Value
-returns-in-Value c x =
+pub returns-in-Ok : goal.returns-in-Ok
+returns-in-Ok c x =
     rw c.put_value.ensures
-    (read_value _ _ _ c.word_at-id.ensures c.read-reading.ensures c.in-Value.v c.in-Value.is)
+    (read_value _ _ _ c.word_at-id.ensures c.read.ensures c.in-Ok.v c.in-Ok.is)
 
-pub returns-in-Refused : goal.returns-in-Refused
-returns-in-Refused c x =
-    read_refused _ _ _ c.word_at-id.ensures c.read-reading.ensures c.in-Refused.why c.in-Refused.is c.errno.ensures
+pub returns-in-Err : goal.returns-in-Err
+returns-in-Err c x =
+    read_refused _ _ _ c.word_at-id.ensures c.read.ensures c.in-Err.why c.in-Err.is c.errno.ensures
