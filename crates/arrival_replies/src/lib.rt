@@ -21,7 +21,7 @@ impl From<Arrival> for Told {
 
     fn from(a: Arrival) -> Told {
         let (kind, number, buffer) = match a {
-            Arrival::Refused(why) => (0, ioctl_table::errno(why), 0),
+            Arrival::Refused(why) => (0, u32::from(why), 0),
             Arrival::Ignored => (1, 0, 0),
             Arrival::Damaged => (2, 0, 0),
             Arrival::Dropped => (3, 0, 0),

@@ -36,8 +36,7 @@ use Rattle.plane_rules.specs.Planes.{no_place, plane_of}
 use Rattle.crop_rules.specs.Crop.{clamped, opening_crop}
 use Rattle.control_place_rules.specs.Find.{present, place_of, queried_place}
 use Rattle.control_value_rules.specs.Values.{default_values, opening_values, reading_at, reading, ranged_at, setting_at, setting_of}
-use Rattle.control_value_rules.specs.declared.Reading.{Reading}
-use Rattle.control_value_rules.specs.declared.Reading.TheVariants as reads
+use Rattle.std.specs.Prelude.{Result, Ok, Err}
 use Rattle.control_value_rules.specs.declared.Setting.{Setting}
 use Rattle.control_value_rules.specs.declared.Setting.TheVariants as settings
 use Rattle.stream_words.specs.Stream.{Stream, on_queues}
@@ -295,14 +294,14 @@ module _ (s : List ℕ) (good : good_sheet s ≡ true) (d : State) (mem : Kind �
   answered_read : length a ≡ 8 → DoesIt GCtrl (g_ctrl_of (kept_of s) d a)
   unfolding g_ctrl_of reading reading_at
   answered_read l =
-      subst (λ (x : Reading). DoesIt GCtrl (read_as x (word_at a 0) d a)) (sym (kept_reading s good d.values (word_at a 0)))
+      subst (λ (x : Result ℕ Refusal). DoesIt GCtrl (read_as x (word_at a 0) d a)) (sym (kept_reading s good d.values (word_at a 0)))
       (go (leb (present s) (place_of s (word_at a 0))) (eqb ((named s a).flags % 2) 1) (eqb (named s a).kind 4))
     where
       v : ℕ
       v = get_or d.values (place_of s (word_at a 0)) 0
 
-      r : Bool → Bool → Bool → Reading
-      r x y z = cond x (reads.Refused NoSuchControl) (cond y (reads.Refused ControlDisabled) (cond z (reads.Refused ControlIsButton) (reads.Value (get_or d.values (place_of s (word_at a 0)) 0))))
+      r : Bool → Bool → Bool → Result ℕ Refusal
+      r x y z = cond x (Err NoSuchControl) (cond y (Err ControlDisabled) (cond z (Err ControlIsButton) (Ok (get_or d.values (place_of s (word_at a 0)) 0))))
 
       go : (x y z : Bool) → DoesIt GCtrl (read_as (r x y z) (word_at a 0) d a)
       go true y z h = absurd (omega (arith, h))
@@ -313,14 +312,14 @@ module _ (s : List ℕ) (good : good_sheet s ≡ true) (d : State) (mem : Kind �
   answered_set : length a ≡ 8 → DoesIt SCtrl (s_ctrl_of (kept_of s) d a)
   unfolding s_ctrl_of setting_of setting_at ranged_at
   answered_set l =
-      subst (λ (x : Setting). DoesIt SCtrl (set_as x (word_at a 0) d a)) (sym (kept_setting s good (word_at a 0) (word_at a 4)))
+      subst (λ (x : Result Setting Refusal). DoesIt SCtrl (set_as x (word_at a 0) d a)) (sym (kept_setting s good (word_at a 0) (word_at a 4)))
       λ h. let (x, y) = go (leb (present s) (place_of s (word_at a 0))) (eqb ((named s a).flags % 2) 1) (eqb ((named s a).flags / 4 % 2) 1) (eqb ((named s a).flags / 2 % 2) 1) (eqb (named s a).kind 4)
       (lt_z (signed (word_at a 4)) (named s a).limits.minimum) (lt_z (named s a).limits.maximum (signed (word_at a 4))) h in
       record { desk = x; argument = y }
     where
-      r : Bool → Bool → Bool → Bool → Bool → Bool → Bool → Setting
-      r x y z u button lo hi = cond x (settings.Refused NoSuchControl) (cond y (settings.Refused ControlDisabled) (cond z (settings.Refused ControlReadOnly) (cond u (settings.Refused ControlGrabbed)
-          (cond button settings.Pressed (cond lo (settings.Refused OutOfRange) (cond hi (settings.Refused OutOfRange) (settings.Stored (place_of s (word_at a 0)) (value_on s a))))))))
+      r : Bool → Bool → Bool → Bool → Bool → Bool → Bool → Result Setting Refusal
+      r x y z u button lo hi = cond x (Err NoSuchControl) (cond y (Err ControlDisabled) (cond z (Err ControlReadOnly) (cond u (Err ControlGrabbed)
+          (cond button (Ok settings.Pressed) (cond lo (Err OutOfRange) (cond hi (Err OutOfRange) (Ok (settings.Stored (place_of s (word_at a 0)) (value_on s a)))))))))
 
       kept : Desk
       kept = record { format = d.format; crop = d.crop; values = set d.values (place_of s (word_at a 0)) (value_on s a); services = d.services }

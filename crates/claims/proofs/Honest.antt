@@ -17,8 +17,7 @@ use Rattle.ioctl_table.specs.declared.table.Call.TheVariants.{Unknown, Querycap,
 use Rattle.sheet_contents.specs.Contents.{format_count}
 use Rattle.control_place_rules.specs.Find.{present, queried_place}
 use Rattle.control_value_rules.specs.Values.{reading, setting_of}
-use Rattle.control_value_rules.specs.declared.Reading.{Reading}
-use Rattle.control_value_rules.specs.declared.Reading.TheVariants as reads
+use Rattle.std.specs.Prelude.{Result, Ok, Err}
 use Rattle.control_value_rules.specs.declared.Setting.{Setting}
 use Rattle.control_value_rules.specs.declared.Setting.TheVariants as settings
 use Rattle.negotiation_rules.specs.Negotiation.{negotiated, asked_format}
@@ -87,14 +86,14 @@ module _ (d : State) (a : List ℕ) where
   honest_services true why r h = honest_refused (errno_of why)
   honest_services false why r h = h
 
-  honest_read : (x : Reading) (id : ℕ) → Honest d a (read_as x id d a)
-  honest_read (reads.Value v) id = honest_done d (value_reply id v)
-  honest_read (reads.Refused why) id = honest_refused (errno_of why)
+  honest_read : (x : Result ℕ Refusal) (id : ℕ) → Honest d a (read_as x id d a)
+  honest_read (Ok v) id = honest_done d (value_reply id v)
+  honest_read (Err why) id = honest_refused (errno_of why)
 
-  honest_set : (x : Setting) (id : ℕ) → Honest d a (set_as x id d a)
-  honest_set (settings.Stored k v) id = honest_done (with_values d (set d.values k v)) (value_reply id v)
-  honest_set settings.Pressed id = honest_quiet d
-  honest_set (settings.Refused why) id = honest_refused (errno_of why)
+  honest_set : (x : Result Setting Refusal) (id : ℕ) → Honest d a (set_as x id d a)
+  honest_set (Ok (settings.Stored k v)) id = honest_done (with_values d (set d.values k v)) (value_reply id v)
+  honest_set (Ok settings.Pressed) id = honest_quiet d
+  honest_set (Err why) id = honest_refused (errno_of why)
 
   honest_call : (s : List ℕ) (call : Call) → Honest d a (call_answer call s d a)
   unfolding querycap_of enum_fmt_of g_fmt_of s_fmt_of try_fmt_of cropcap_of g_crop_of s_crop_of queryctrl_of g_ctrl_of s_ctrl_of g_services_of s_services_of try_services_of services_capability_of

@@ -21,8 +21,7 @@ use Rattle.sheet_contents.specs.Contents.{format_count}
 use Rattle.sheet_rules.specs.Rules.{good_sheet}
 use Rattle.control_place_rules.specs.Find.{present, queried_place}
 use Rattle.control_value_rules.specs.Values.{reading, setting_of}
-use Rattle.control_value_rules.specs.declared.Reading.{Reading}
-use Rattle.control_value_rules.specs.declared.Reading.TheVariants as reads
+use Rattle.std.specs.Prelude.{Result, Ok, Err}
 use Rattle.control_value_rules.specs.declared.Setting.{Setting}
 use Rattle.control_value_rules.specs.declared.Setting.TheVariants as settings
 use Rattle.service_replies.specs.Services.{lines_at, asked_services, services_reply, services_capability_reply}
@@ -71,14 +70,14 @@ module _ (s : List ℕ) (d : State) (a : List ℕ) where
       go false true = f
       go false false = refl
 
-  read : (x : Reading) (id : ℕ) → (read_as x id d a).state.services ≡ d.services
-  read (reads.Value v) id = refl
-  read (reads.Refused why) id = refl
+  read : (x : Result ℕ Refusal) (id : ℕ) → (read_as x id d a).state.services ≡ d.services
+  read (Ok v) id = refl
+  read (Err why) id = refl
 
-  written : (x : Setting) (id : ℕ) → (set_as x id d a).state.services ≡ d.services
-  written (settings.Stored k v) id = refl
-  written settings.Pressed id = refl
-  written (settings.Refused why) id = refl
+  written : (x : Result Setting Refusal) (id : ℕ) → (set_as x id d a).state.services ≡ d.services
+  written (Ok (settings.Stored k v)) id = refl
+  written (Ok settings.Pressed) id = refl
+  written (Err why) id = refl
 
   -- every call but S_FMT leaves them
   left : (call : Asked) → (call ≡ SFmt → ⊥) → (call_answer call s d a).state.services ≡ d.services

@@ -44,8 +44,7 @@ use Rattle.stream_status.specs.Buffer.{query_of, returned_of}
 use Rattle.sheet_contents.specs.Contents.{format_count}
 use Rattle.control_place_rules.specs.Find.{present, queried_place}
 use Rattle.control_value_rules.specs.Values.{reading, setting_of}
-use Rattle.control_value_rules.specs.declared.Reading.{Reading}
-use Rattle.control_value_rules.specs.declared.Reading.TheVariants as reads
+use Rattle.std.specs.Prelude.{Result, Ok, Err}
 use Rattle.control_value_rules.specs.declared.Setting.{Setting}
 use Rattle.control_value_rules.specs.declared.Setting.TheVariants as settings
 use Rattle.buffer_replies.specs.Replies.{buffers_reply, buffer_reply}
@@ -486,9 +485,9 @@ module _ (k : Kind) (b : Box) (p : Paper) (a : List ℕ) (safe : Safe k b p) whe
       go Kind.captions z (Ok i) = still Kind.captions b p a z Querybuf b.state _ z.ready z.sized refl refl
       go Kind.captions z (Err why) = refuses_for Kind.captions b p Querybuf a z why
 
-  does_read : (x : Reading) (id : ℕ) → Does k b p GCtrl a (read_as x id b.state a)
-  does_read (reads.Value v) id = same_state GCtrl _ refl
-  does_read (reads.Refused why) id = refuses_for k b p GCtrl a safe why
+  does_read : (x : Result ℕ Refusal) (id : ℕ) → Does k b p GCtrl a (read_as x id b.state a)
+  does_read (Ok v) id = same_state GCtrl _ refl
+  does_read (Err why) id = refuses_for k b p GCtrl a safe why
 
   -- other values, or another crop, leave the streams and their sizes
   values_view : (j : Kind) (v : List ℕ) → view j (box_with b (with_values b.state v)) ≡ view j b
@@ -499,10 +498,10 @@ module _ (k : Kind) (b : Box) (p : Paper) (a : List ℕ) (safe : Safe k b p) whe
   crop_view Kind.pictures r = refl
   crop_view Kind.captions r = refl
 
-  does_set : (x : Setting) (id : ℕ) → Does k b p SCtrl a (set_as x id b.state a)
-  does_set (settings.Stored i v) id = still k b p a safe SCtrl _ _ safe.ready safe.sized (values_view k _) refl
-  does_set settings.Pressed id = same_state SCtrl a refl
-  does_set (settings.Refused why) id = refuses_for k b p SCtrl a safe why
+  does_set : (x : Result Setting Refusal) (id : ℕ) → Does k b p SCtrl a (set_as x id b.state a)
+  does_set (Ok (settings.Stored i v)) id = still k b p a safe SCtrl _ _ safe.ready safe.sized (values_view k _) refl
+  does_set (Ok settings.Pressed) id = same_state SCtrl a refl
+  does_set (Err why) id = refuses_for k b p SCtrl a safe why
 
   pub does_call : (call : Asked) → length a ≡ argument_size call → Does k b p call a (call_answer call b.sheet b.state a)
   unfolding querycap_of enum_fmt_of g_fmt_of try_fmt_of querybuf_of g_ctrl_of s_ctrl_of queryctrl_of cropcap_of g_crop_of s_crop_of g_services_of try_services_of services_capability_of

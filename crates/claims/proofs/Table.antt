@@ -21,8 +21,7 @@ use Rattle.sheet_records.specs.declared.Control.{Control}
 use Rattle.sheet_contents.specs.Contents.{format_count}
 use Rattle.control_place_rules.specs.Find.{present, place_of, queried_place}
 use Rattle.control_value_rules.specs.Values.{reading_at, reading, ranged_at, setting_at, setting_of}
-use Rattle.control_value_rules.specs.declared.Reading.{Reading}
-use Rattle.control_value_rules.specs.declared.Reading.TheVariants as reads
+use Rattle.std.specs.Prelude.{Result, Ok, Err}
 use Rattle.control_value_rules.specs.declared.Setting.{Setting}
 use Rattle.control_value_rules.specs.declared.Setting.TheVariants as settings
 use Rattle.stream_words.specs.Stream.{Stream}
@@ -76,24 +75,24 @@ stream_number : (f : Stream → ℕ → ℕ → List ℕ → StreamAnswer) (at :
 stream_number f at d a n e = type_number at d a _ _ (λ k. n (stream_of k d)) (e d.video 1 d.size) (e d.captions 6 _)
 
 -- a reading and a setting by their tests
-read_by : (x : Bool) (why : Refusal) (r : Reading) (id : ℕ) (d : State) (a : List ℕ) (n : ℕ) → (read_as r id d a).number ≡ n
-    → (read_as (cond x (reads.Refused why) r) id d a).number ≡ cond x (errno_of why) n
+read_by : (x : Bool) (why : Refusal) (r : Result ℕ Refusal) (id : ℕ) (d : State) (a : List ℕ) (n : ℕ) → (read_as r id d a).number ≡ n
+    → (read_as (cond x (Err why) r) id d a).number ≡ cond x (errno_of why) n
 read_by true why r id d a n e = refl
 read_by false why r id d a n e = e
 
-set_by : (x : Bool) (why : Refusal) (r : Setting) (id : ℕ) (d : State) (a : List ℕ) (n : ℕ) → (set_as r id d a).number ≡ n
-    → (set_as (cond x (settings.Refused why) r) id d a).number ≡ cond x (errno_of why) n
+set_by : (x : Bool) (why : Refusal) (r : Result Setting Refusal) (id : ℕ) (d : State) (a : List ℕ) (n : ℕ) → (set_as r id d a).number ≡ n
+    → (set_as (cond x (Err why) r) id d a).number ≡ cond x (errno_of why) n
 set_by true why r id d a n e = refl
 set_by false why r id d a n e = e
 
 -- a value out of range, unless the control is a button
 range_number : (c : Control) (k v id : ℕ) (d : State) (a : List ℕ)
-    → (set_as (cond (eqb c.kind 4) settings.Pressed (ranged_at c.limits k v)) id d a).number ≡ cond (out_of_range c v) 34 0
+    → (set_as (cond (eqb c.kind 4) (Ok settings.Pressed) (ranged_at c.limits k v)) id d a).number ≡ cond (out_of_range c v) 34 0
 unfolding ranged_at
 range_number c k v id d a = go (eqb c.kind 4) (lt_z (signed v) c.limits.minimum) (lt_z c.limits.maximum (signed v))
   where
     go : (x y z : Bool)
-        → (set_as (cond x settings.Pressed (cond y (settings.Refused OutOfRange) (cond z (settings.Refused OutOfRange) (settings.Stored k (bits (nearest_value c.limits (signed v))))))) id d a).number
+        → (set_as (cond x (Ok settings.Pressed) (cond y (Err OutOfRange) (cond z (Err OutOfRange) (Ok (settings.Stored k (bits (nearest_value c.limits (signed v)))))))) id d a).number
         ≡ cond (not x && (y || z)) 34 0
     go true y z = refl
     go false true z = refl

@@ -8,8 +8,7 @@ use Rattle.wire_read.specs.Words.{word_at}
 use Rattle.ioctl_table.specs.Refusal.{errno_of}
 use Rattle.ioctl_table.specs.declared.refusals.Refusal.{Refusal}
 use Rattle.control_value_rules.specs.Values.{reading, setting_of}
-use Rattle.control_value_rules.specs.declared.Reading.{Reading}
-use Rattle.control_value_rules.specs.declared.Reading.TheVariants as reads
+use Rattle.std.specs.Prelude.{Result, Ok, Err}
 use Rattle.control_value_rules.specs.declared.Setting.{Setting}
 use Rattle.control_value_rules.specs.declared.Setting.TheVariants as settings
 use Rattle.control_replies.specs.Replies.{value_reply}
@@ -18,35 +17,35 @@ use Rattle.device_state.specs.Answers.{answer, done}
 use Rattle.control_calls.specs.Controls.{read_as, g_ctrl_of, set_as, s_ctrl_of}
 
 -- the reading x of the control with the id named in the argument
-module _ (s : List ℕ) (d : State) (a : List ℕ) {id : ℕ} {x : Reading} (i : id ≡ word_at a 0) (e : x ≡ reading s d.values id) where
+module _ (s : List ℕ) (d : State) (a : List ℕ) {id : ℕ} {x : Result ℕ Refusal} (i : id ≡ word_at a 0) (e : x ≡ reading s d.values id) where
   -- G_CTRL answers as the reading says
   g_ctrl_by : read_as x id d a ≡ g_ctrl_of s d a
   unfolding g_ctrl_of
   g_ctrl_by = rw (e, i)
 
   -- a value is shown
-  pub read_value : (v : ℕ) → x ≡ reads.Value v → done d (sets a 0 (value_reply id v)) ≡ g_ctrl_of s d a
-  read_value v h = ap (λ (y : Reading). read_as y id d a) (sym h) ∙ g_ctrl_by
+  pub read_value : (v : ℕ) → x ≡ Ok v → done d (sets a 0 (value_reply id v)) ≡ g_ctrl_of s d a
+  read_value v h = ap (λ (y : Result ℕ Refusal). read_as y id d a) (sym h) ∙ g_ctrl_by
 
   -- a refused reading changes nothing
-  pub read_refused : (why : Refusal) {n : ℕ} → x ≡ reads.Refused why → n ≡ errno_of why → answer n d a ≡ g_ctrl_of s d a
-  read_refused why h q = rw q (ap (λ (y : Reading). read_as y id d a) (sym h) ∙ g_ctrl_by)
+  pub read_refused : (why : Refusal) {n : ℕ} → x ≡ Err why → n ≡ errno_of why → answer n d a ≡ g_ctrl_of s d a
+  read_refused why h q = rw q (ap (λ (y : Result ℕ Refusal). read_as y id d a) (sym h) ∙ g_ctrl_by)
 
 -- the setting x of the control with the id named in the argument to the value named there
-module _ (s : List ℕ) (d : State) (a : List ℕ) {id w : ℕ} {x : Setting} (i : id ≡ word_at a 0) (j : w ≡ word_at a 4) (e : x ≡ setting_of s id w) where
+module _ (s : List ℕ) (d : State) (a : List ℕ) {id w : ℕ} {x : Result Setting Refusal} (i : id ≡ word_at a 0) (j : w ≡ word_at a 4) (e : x ≡ setting_of s id w) where
   -- S_CTRL answers as the setting says
   s_ctrl_by : set_as x id d a ≡ s_ctrl_of s d a
   unfolding s_ctrl_of
   s_ctrl_by = rw (e, i, j)
 
   -- a value is kept and shown
-  pub set_stored : (k v : ℕ) {vs : List ℕ} → x ≡ settings.Stored k v → vs ≡ set d.values k v → done (with_values d vs) (sets a 0 (value_reply id v)) ≡ s_ctrl_of s d a
-  set_stored k v h q = rw q (ap (λ (y : Setting). set_as y id d a) (sym h) ∙ s_ctrl_by)
+  pub set_stored : (k v : ℕ) {vs : List ℕ} → x ≡ (Ok (settings.Stored k v)) → vs ≡ set d.values k v → done (with_values d vs) (sets a 0 (value_reply id v)) ≡ s_ctrl_of s d a
+  set_stored k v h q = rw q (ap (λ (y : Result Setting Refusal). set_as y id d a) (sym h) ∙ s_ctrl_by)
 
   -- a button changes nothing
-  pub set_pressed : x ≡ settings.Pressed → done d a ≡ s_ctrl_of s d a
-  set_pressed h = ap (λ (y : Setting). set_as y id d a) (sym h) ∙ s_ctrl_by
+  pub set_pressed : x ≡ (Ok settings.Pressed) → done d a ≡ s_ctrl_of s d a
+  set_pressed h = ap (λ (y : Result Setting Refusal). set_as y id d a) (sym h) ∙ s_ctrl_by
 
   -- a refused setting changes nothing
-  pub set_refused : (why : Refusal) {n : ℕ} → x ≡ settings.Refused why → n ≡ errno_of why → answer n d a ≡ s_ctrl_of s d a
-  set_refused why h q = rw q (ap (λ (y : Setting). set_as y id d a) (sym h) ∙ s_ctrl_by)
+  pub set_refused : (why : Refusal) {n : ℕ} → x ≡ Err why → n ≡ errno_of why → answer n d a ≡ s_ctrl_of s d a
+  set_refused why h q = rw q (ap (λ (y : Result Setting Refusal). set_as y id d a) (sym h) ∙ s_ctrl_by)

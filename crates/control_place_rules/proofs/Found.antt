@@ -1,19 +1,39 @@
 -- What the look-ups find on a good sheet. Assumes nothing.
 use Prim.Native.Nat.{ℕ, ◌≤◌, ◌<◌}
 use mathlib.Core.Path.{◌≡◌, refl, sym, ◌∙◌}
-use mathlib.Core.Bool.{Bool, true, false, false≢true}
+use mathlib.Core.Bool.{Bool, true, false, cond, false≢true}
 use mathlib.Core.List.{List}
 use native.Mathlib.Nat.{min-eq_left}
 use native.Mathlib.Omega.{arith}
 use borrow.Author.Tests.{eqb-true, eq-eqb, ltb-true, ltb-false, lt-ltb}
 use lib.Dec.{eqb, ltb}
+use Rattle.std.specs.Prelude.{Some, None}
+use Rattle.std.proofs.lemmas.Option.{same_Some, none-some}
 use Rattle.sheet_contents.specs.Contents.{control_count}
 use Rattle.sheet_records.specs.Records.{control_id}
 use Rattle.sheet_rules.specs.Rules.{good_sheet}
 use Rattle.sheet_rules.proofs.Good.{contents, ids_rise}
 use Rattle.control_place_rules.specs.First.{first_below}
-use Rattle.control_place_rules.specs.Find.{present, place_of, place_above}
+use Rattle.control_place_rules.specs.Find.{present, found_place, place_of, place_above}
 use Rattle.control_place_rules.proofs.Search.{first_passes, first_fails}
+
+-- a look-up that answers a place answers one of the controls
+pub found_some : (s : List ℕ) (p k : ℕ) → found_place s p ≡ Some k → (p ≡ k) × (p < present s)
+unfolding found_place
+found_some s p k e = by (ltb p (present s)) refl e
+  where
+    by : (t : Bool) → ltb p (present s) ≡ t → cond t (Some p) None ≡ Some k → (p ≡ k) × (p < present s)
+    by true l q = (same_Some p k q, ltb-true p (present s) l)
+    by false l q = absurd (none-some k q)
+
+-- a look-up that answers none has come to their end
+pub found_none : (s : List ℕ) (p : ℕ) → found_place s p ≡ None → present s ≤ p
+unfolding found_place
+found_none s p e = by (ltb p (present s)) refl e
+  where
+    by : (t : Bool) → ltb p (present s) ≡ t → cond t (Some p) None ≡ None → present s ≤ p
+    by true l q = absurd (none-some p (sym q))
+    by false l q = ltb-false p (present s) l
 
 -- what is found has the id, on any sheet
 pub place_has_id : (s : List ℕ) (id : ℕ) → place_of s id < present s → control_id s (place_of s id) ≡ id

@@ -1,27 +1,14 @@
--- A search from the first number on: one turn, its end, and what it found. Assumes nothing.
-use Prim.Native.Nat.{ℕ, zero, suc, ◌+◌, ◌-◌, ◌≤◌, ◌<◌}
-use mathlib.Core.Path.{◌≡◌, refl}
-use mathlib.Core.Bool.{Bool, true, false, cond}
-use borrow.Author.Tests.{ltb-true, ltb-false}
+-- A search from the first number on: what it found. Assumes nothing.
+use Prim.Native.Nat.{ℕ, zero, suc, ◌+◌, ◌≤◌, ◌<◌}
+use mathlib.Core.Path.{◌≡◌, refl, sym, ◌∙◌}
+use mathlib.Core.Bool.{Bool, true, false, cond, false≢true}
+use borrow.Author.Tests.{ltb-true, ltb-false, lt-ltb, le-ltb}
 use lib.Dec.{ltb}
 use native.Mathlib.Omega.{arith}
-use native.Mathlib.Numerals.{add-one}
+use Rattle.std.specs.Prelude.{Option, Some, None, MatchOption}
 use Rattle.control_place_rules.specs.First.{first_from, first_below}
 
 module _ (p : ℕ → Bool) where
-  -- a turn that finds, a turn that goes on, and the end
-  pub found_here : (k n : ℕ) → k < n → p k ≡ true → first_from p k (n - k) ≡ k
-  unfolding first_from
-  found_here k n h e = let q : n - k ≡ suc (n - suc k) = omega arith in rw (q, e)
-
-  pub goes_on_law : (k n : ℕ) → k < n → p k ≡ false → first_from p k (n - k) ≡ first_from p (k + 1) (n - (k + 1))
-  unfolding first_from
-  goes_on_law k n h e = let q : n - k ≡ suc (n - (k + 1)) = omega arith in rw (q, e, add-one k)
-
-  pub at_end : (n : ℕ) → first_from p n (n - n) ≡ n
-  unfolding first_from
-  at_end n = let q : n - n ≡ 0 = omega arith in rw q
-
   -- the answer lies from k to the end; what it passed over fails the test, and what it found passes
   from_start : (k n : ℕ) → k ≤ first_from p k n
   unfolding first_from
@@ -75,3 +62,33 @@ module _ (p : ℕ → Bool) where
   pub first_fails : (n j : ℕ) → j < first_below p n → p j ≡ false
   unfolding first_below
   first_fails n j h = from_fails 0 n j (omega arith) h
+
+  -- the only number that passes while all before it fail, and the end where none passes
+  pub first_is : (n k : ℕ) → k < n → p k ≡ true → ((j : ℕ) → j < k → p j ≡ false) → first_below p n ≡ k
+  first_is n k h e f = by (ltb (first_below p n) k) refl (ltb k (first_below p n)) refl
+    where
+      by : (t : Bool) → ltb (first_below p n) k ≡ t → (u : Bool) → ltb k (first_below p n) ≡ u → first_below p n ≡ k
+      by true l u m =
+          let w = ltb-true (first_below p n) k l in
+          absurd (false≢true (sym (f (first_below p n) w) ∙ first_passes n (omega arith)))
+      by false l true m = absurd (false≢true (sym (first_fails n k (ltb-true k (first_below p n) m)) ∙ e))
+      by false l false m = omega (arith, ltb-false (first_below p n) k l, ltb-false k (first_below p n) m)
+
+  pub first_none : (n : ℕ) → ((j : ℕ) → j < n → p j ≡ false) → first_below p n ≡ n
+  first_none n f = by (ltb (first_below p n) n) refl
+    where
+      by : (t : Bool) → ltb (first_below p n) n ≡ t → first_below p n ≡ n
+      by true l =
+          let w = ltb-true (first_below p n) n l in
+          absurd (false≢true (sym (f (first_below p n) w) ∙ first_passes n w))
+      by false l = omega (arith, first_within n, ltb-false (first_below p n) n l)
+
+  -- what `find` says of its result, as the answer of a look-up
+  pub found_first : (n : ℕ) (r : Option ℕ)
+      → MatchOption r ((j : ℕ) → 0 ≤ j → j < n → p j ≡ false) (λ k. (0 ≤ k) × (k < n) × (p k ≡ true) × ((j : ℕ) → 0 ≤ j → j < k → p j ≡ false))
+      → r ≡ cond (ltb (first_below p n) n) (Some (first_below p n)) None
+  found_first n (Some k) m =
+      let (_, h, e, f) = m in
+      let q = first_is n k h e (λ j l. f j (omega arith) l) in
+      rw (q, lt-ltb k n h)
+  found_first n None m = let q = first_none n (λ j l. m j (omega arith) l) in rw (q, le-ltb n n (omega arith))

@@ -1,5 +1,5 @@
 -- Controls by their ids.
-use Rattle.std.specs.Prelude.{ℕ, ◌-◌, min, cond, List, eqb, ltb}
+use Rattle.std.specs.Prelude.{ℕ, ◌-◌, min, cond, List, eqb, ltb, Option, Some, None}
 use Rattle.sheet_contents.specs.Contents.{control_count}
 use Rattle.sheet_records.specs.Records.{control_id}
 use Rattle.control_place_rules.specs.First.{first_below}
@@ -7,6 +7,10 @@ use Rattle.control_place_rules.specs.First.{first_below}
 -- how many controls there are, up to 32
 unfoldable pub present : List ℕ → ℕ
 present s = min (control_count s) 32
+
+-- what a look-up answers: the place, where it is one of the controls'
+unfoldable pub found_place : List ℕ → ℕ → Option ℕ
+found_place s k = cond (ltb k (present s)) (Some k) None
 
 -- the place of the control with the id, or how many there are
 unfoldable pub place_of : List ℕ → ℕ → ℕ

@@ -2,49 +2,32 @@
 #![tactic(auto)]
 
 ghost use Rattle.std.specs.Prelude.{◌≡◌};
-ghost use Rattle.control_place_rules.specs.Find.{present, place_of, place_above, queried_place};
+ghost use Rattle.control_place_rules.specs.Find.{present, found_place, place_of, place_above, queried_place};
 
 // How many controls there are to look at. A good sheet has at most 32.
 pub fn count(s: &[u8]) -> u32
     ensures { result ≡ present s.now }
 {
-    let n = sheet_contents::control_count(s);
-    if n <= 32 { n } else { 32 }
+    sheet_contents::control_count(s).min(32)
 }
 
-// The place of the control with this id, or their number where there is none.
-pub fn place(s: &[u8], id: u32) -> u32
-    ensures { result ≡ place_of s.now id }
+// The place of the control with this id.
+pub fn place(s: &[u8], id: u32) -> Option<u32>
+    ensures { result ≡ found_place s.now (place_of s.now id) }
 {
-    let n = count(s);
-    let mut k: u32 = 0;
-    while k < n {
-        if sheet_controls::control_id(s, k) == id {
-            return k;
-        }
-        k += 1;
-    }
-    n
+    (0..count(s)).find(|&k| sheet_controls::control_id(s, k) == id)
 }
 
-// The place of the first control with a higher id, or their number where there is none.
-fn place_above(s: &[u8], id: u32) -> u32
-    ensures { result ≡ place_above s.now id }
+// The place of the first control with a higher id.
+fn place_above(s: &[u8], id: u32) -> Option<u32>
+    ensures { result ≡ found_place s.now (place_above s.now id) }
 {
-    let n = count(s);
-    let mut k: u32 = 0;
-    while k < n {
-        if id < sheet_controls::control_id(s, k) {
-            return k;
-        }
-        k += 1;
-    }
-    n
+    (0..count(s)).find(|&k| id < sheet_controls::control_id(s, k))
 }
 
 // What QUERYCTRL looks for: the id, or with bit 31 the next higher one.
-pub fn queried(s: &[u8], id: u32) -> u32
-    ensures { result ≡ queried_place s.now id }
+pub fn queried(s: &[u8], id: u32) -> Option<u32>
+    ensures { result ≡ found_place s.now (queried_place s.now id) }
 {
     if id < 0x8000_0000 {
         return place(s, id);

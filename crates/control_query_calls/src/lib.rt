@@ -13,10 +13,10 @@ use ioctl_table::Refusal;
 pub fn queryctrl(sheet: &[u8], argument: &mut [u8]) -> Result<(), Refusal>
     ensures { (d : State) → answer (number_of result) d argument.new ≡ queryctrl_of sheet.now d argument.old }
 {
-    let k = control_place_rules::queried(sheet, wire_read::word_at(argument, 0));
-    if control_place_rules::count(sheet) <= k {
+    let found = control_place_rules::queried(sheet, wire_read::word_at(argument, 0));
+    let Some(k) = found else {
         return Err(Refusal::NoSuchControl);
-    }
+    };
     control_replies::put_control(argument, sheet, k);
     Ok(())
 }

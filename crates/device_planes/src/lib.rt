@@ -15,7 +15,7 @@ pub fn plane_place(sheet: &[u8], setup: &SetupWords, bytes: usize, k: u32) -> Pl
     ensures { (d : State) → result ≡ device_place sheet.now (with_setup d (setup_in setup.now)) bytes k }
 {
     if setup[device_state::READY] == 0 {
-        let number = ioctl_table::errno(Refusal::Closed);
+        let number = u32::from(Refusal::Closed);
         return Place {
             number,
             start: 0,

@@ -2,27 +2,28 @@
 #![tactic(auto)]
 
 ghost use Rattle.std.specs.Prelude.{◌≡◌, length};
+ghost use Rattle.ioctl_table.specs.Refusal.{number_of};
 ghost use Rattle.ivtv_rules.specs.Writing.{pack_number, packed};
 ghost use Rattle.ivtv_rules.specs.Reading.{unpack_number, unpacked};
 
 use ioctl_table::Refusal;
 
-// Records of 64 bytes, in any order, packed into a block of exactly their length: 0; or 22, and nothing written.
-pub fn pack(lines: &[u8], block: &mut [u8]) -> u32
-    ensures { (result ≡ pack_number lines.now (length block.old)) × (block.new ≡ packed lines.now block.old) }
+// Records of 64 bytes, in any order, packed into a block of exactly their length; or refused, and nothing written.
+pub fn pack(lines: &[u8], block: &mut [u8]) -> Result<(), Refusal>
+    ensures { (number_of result ≡ pack_number lines.now (length block.old)) × (block.new ≡ packed lines.now block.old) }
 {
     if ivtv_writer::write(lines, block) {
-        return 0;
+        return Ok(());
     }
-    ioctl_table::errno(Refusal::BadLines)
+    Err(Refusal::BadLines)
 }
 
-// A block read into records of 64 bytes, in the order of their bits, of exactly their length: 0; or 22, and nothing written.
-pub fn unpack(block: &[u8], lines: &mut [u8]) -> u32
-    ensures { (result ≡ unpack_number block.now (length lines.old)) × (lines.new ≡ unpacked block.now lines.old) }
+// A block read into records of 64 bytes, in the order of their bits, of exactly their length; or refused, and nothing written.
+pub fn unpack(block: &[u8], lines: &mut [u8]) -> Result<(), Refusal>
+    ensures { (number_of result ≡ unpack_number block.now (length lines.old)) × (lines.new ≡ unpacked block.now lines.old) }
 {
     if ivtv_reader::read(block, lines) {
-        return 0;
+        return Ok(());
     }
-    ioctl_table::errno(Refusal::BadBlock)
+    Err(Refusal::BadBlock)
 }

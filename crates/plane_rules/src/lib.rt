@@ -113,7 +113,7 @@ pub fn plane_place(f: Format, alignment: u32, bytes: usize, k: u32) -> Place
 {
     let size = format_rules::image_size(f, alignment) as usize;
     if (bytes != size) | (plane_count(f.code) <= k) {
-        let number = ioctl_table::errno(Refusal::NoSuchPlane);
+        let number = u32::from(Refusal::NoSuchPlane);
         return Place {
             number,
             start: 0,

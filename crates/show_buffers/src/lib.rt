@@ -16,7 +16,7 @@ use stream_words::Words;
 fn mapped(s: &mut Words, c: Change, k: u32, size: u32) -> u32 {
     let offset = stream_words::low(stream_slots::slot_offset(k, size));
     let length = stream_words::low(stream_slots::slot_size(size));
-    stream_run::reply_number(stream_mmap::change(s, c, size, offset, length))
+    ioctl_table::number(stream_mmap::change(s, c, size, offset, length))
 }
 
 // Buffer 0 is mapped so often; the number of the last of these calls.
@@ -30,15 +30,18 @@ fn often(s: &mut Words, times: u32, size: u32) -> u32 {
 
 fn asked(s: &mut Words, c: u8, size: u32, a: &mut [u8]) -> u32 {
     match c {
-        b'r' => buffer_calls::reqbufs(s, 1, size, a),
-        b'b' => buffer_calls::querybuf(s, 1, size, a),
-        b'q' => queue_calls::qbuf(s, 1, size, a),
-        b'd' => dequeue_calls::dqbuf(s, 1, size, a),
-        b's' => run_calls::streamon(s),
+        b'r' => ioctl_table::number(buffer_calls::reqbufs(s, 1, size, a)),
+        b'b' => ioctl_table::number(buffer_calls::querybuf(s, 1, size, a)),
+        b'q' => ioctl_table::number(queue_calls::qbuf(s, 1, size, a)),
+        b'd' => ioctl_table::number(dequeue_calls::dqbuf(s, 1, size, a)),
+        b's' => ioctl_table::number(run_calls::streamon(s)),
         b'j' => mapped(s, Change::Map, wire_read::word_at(a, 0), size),
         b'y' => mapped(s, Change::Unmap, wire_read::word_at(a, 0), size),
         b'i' => often(s, wire_read::word_at(a, 0), size),
-        _ => run_calls::streamoff(s),
+        _ => {
+            run_calls::streamoff(s);
+            0
+        }
     }
 }
 

@@ -1,8 +1,6 @@
-// An event on the bench's device: it is said, done, and its answer said. The device goes in whole and comes back whole. No contract here says
-// more than that the functions are safe and end.
+// An event on the bench's device: it is said, done, and its answer said. No contract here says more than that the functions are safe and end.
 #![tactic(auto)]
 
-use device_opening::Made;
 use device_state::Device;
 use show_lists::Reading;
 use std::io;
@@ -15,17 +13,20 @@ pub type Memory = [u8; 1048576];
 // The caption memory: two buffers.
 pub type Captions = [u8; 8192];
 
-// What an event asks is done: the device after it, and the number that comes back.
-fn done(d: Device, pictures: &mut Memory, captions: &mut Captions, c: u8, a: &mut [u8]) -> Made {
+// What an event asks is done; the number that comes back.
+fn done(
+    d: &mut Device,
+    pictures: &mut Memory,
+    captions: &mut Captions,
+    c: u8,
+    a: &mut [u8],
+) -> u32 {
     match c {
-        b'B' | b'D' | b'U' | b'O' | b'I' => show_opening::open(a),
+        b'B' | b'D' | b'U' | b'O' | b'I' => show_opening::open(d, a),
         b'm' | b'n' | b'M' | b'W' => show_maps::change(d, c, a),
         b'w' | b'h' | b'z' => show_frames::arrive(d, pictures, a),
         b'a' | b'A' | b'i' => show_frames::arrive(d, captions, a),
-        b'v' | b'p' | b'#' => {
-            let number = show_frames::read(d, c, a);
-            Made { number, device: d }
-        }
+        b'v' | b'p' | b'#' => show_frames::read(d, c, a),
         _ => show_requests::request(d, c, a),
     }
 }
@@ -33,15 +34,14 @@ fn done(d: Device, pictures: &mut Memory, captions: &mut Captions, c: u8, a: &mu
 // An event: what it asks is said, then done, and what it is answered is said.
 pub fn event(
     out: &mut impl Write,
-    d: Device,
+    d: &mut Device,
     pictures: &mut Memory,
     captions: &mut Captions,
     e: Reading,
-) -> io::Result<Device> {
+) -> io::Result<()> {
     let c = e.letter;
     let mut a = [0u8; 204];
     show_calls::asked(out, c, e.first, e.number, &mut a)?;
-    let made = done(d, pictures, captions, c, &mut a);
-    show_answers::answered(out, c, made.number, &a, pictures, captions)?;
-    Ok(made.device)
+    let number = done(d, pictures, captions, c, &mut a);
+    show_answers::answered(out, c, number, &a, pictures, captions)
 }

@@ -1,12 +1,8 @@
-// A device and its film: frames arrive, the verdict, planes. The device goes in whole and comes back whole, with the number that a
-// caller is given. What is asked stands in the words of an argument, and so does the answer. No contract here says more than that each
-// function is safe and ends.
+// A device and its film: frames arrive, the verdict, planes. What is asked stands in the words of an argument, and so does the answer, beside
+// the number that a caller is given. No contract here says more than that each function is safe and ends.
 #![tactic(auto)]
 
-use device_opening::Made;
-use device_state::{Device, SetupWords};
-use service_rules::Lines;
-use stream_words::Words;
+use device_state::Device;
 
 // The space that a frame is made in. It is lent with its length in its type: an array just made is too long for the checker to count.
 type Space = [u8; 143360];
@@ -20,22 +16,14 @@ fn make(space: &mut Space, a: &[u8]) {
     }
 }
 
-fn taken(
-    setup: &SetupWords,
-    services: &Lines,
-    video: &mut Words,
-    captions: &mut Words,
-    memory: &mut [u8],
-    space: &Space,
-    a: &mut [u8],
-) -> u32 {
+fn taken(d: &mut Device, memory: &mut [u8], space: &Space, a: &mut [u8]) -> u32 {
     let frame = wire_read::part(space, 0, wire_read::word_at(a, 0) as usize);
     let second = wire_read::word_at(a, 4);
     let told = device_numbers::arrive(
-        setup,
-        services,
-        video,
-        captions,
+        &d.setup,
+        &d.services,
+        &mut d.video,
+        &mut d.captions,
         wire_read::word_at(a, 12),
         memory,
         frame,
@@ -48,43 +36,22 @@ fn taken(
 
 // A frame arrives, of as many bytes as the first word says, at the time that the next two tell, of the type that the fourth does, with the
 // memory of its stream.
-pub fn arrive(d: Device, memory: &mut [u8], a: &mut [u8]) -> Made {
+pub fn arrive(d: &mut Device, memory: &mut [u8], a: &mut [u8]) -> u32 {
     let mut space = [0u8; 143360];
-    let setup = d.setup;
-    let services = d.services;
-    let mut video = d.video;
-    let mut captions = d.captions;
     make(&mut space, a);
-    let number = taken(
-        &setup,
-        &services,
-        &mut video,
-        &mut captions,
-        memory,
-        &space,
-        a,
-    );
-    let mut device = d;
-    device.video = video;
-    device.captions = captions;
-    Made { number, device }
+    taken(d, memory, &space, a)
 }
 
 // The verdict on the film of the type that the first word tells.
-fn verdict(d: Device, a: &[u8]) -> u32 {
-    let setup = d.setup;
-    let video = d.video;
-    let captions = d.captions;
-    device_numbers::verdict(&setup, &video, &captions, wire_read::word_at(a, 0))
+fn verdict(d: &Device, a: &[u8]) -> u32 {
+    device_numbers::verdict(&d.setup, &d.video, &d.captions, wire_read::word_at(a, 0))
 }
 
 // Where a plane lies, by its number and the bytes of a frame.
-fn plane(d: Device, a: &mut [u8]) -> u32 {
-    let sheet = d.sheet;
-    let setup = d.setup;
+fn plane(d: &Device, a: &mut [u8]) -> u32 {
     let p = device_planes::plane_place(
-        &sheet,
-        &setup,
+        &d.sheet,
+        &d.setup,
         wire_read::word_at(a, 4) as usize,
         wire_read::word_at(a, 0),
     );
@@ -97,7 +64,7 @@ fn plane(d: Device, a: &mut [u8]) -> u32 {
 }
 
 // What changes nothing: v the verdict, p a plane; any other letter asks for nothing.
-pub fn read(d: Device, c: u8, a: &mut [u8]) -> u32 {
+pub fn read(d: &Device, c: u8, a: &mut [u8]) -> u32 {
     match c {
         b'v' => verdict(d, a),
         b'p' => plane(d, a),

@@ -70,10 +70,10 @@ pub fn packed(
     if block.len() < room {
         return Ok(());
     }
-    let number = ivtv::pack(
+    let number = ioctl_table::number(ivtv::pack(
         wire_read::part(lines, 0, (n % 37 * 64) as usize),
         &mut block[..room],
-    );
+    ));
     show_lines::line(out, b"  pack of %d: %d", &[n, number])?;
     words(out, block, shown)
 }
@@ -83,7 +83,7 @@ fn read_into(block: &[u8], lines: &mut [u8], room: usize) -> u32 {
     if lines.len() < room {
         return 0;
     }
-    ivtv::unpack(block, &mut lines[..room])
+    ioctl_table::number(ivtv::unpack(block, &mut lines[..room]))
 }
 
 // A block of so many bytes read into n records, and up to two of these shown.

@@ -1,5 +1,6 @@
 // Setting the bench's one control, and looking it up.
 use control_value_rules::Setting;
+use ioctl_table::Refusal;
 use std::io;
 use std::io::Write;
 
@@ -8,11 +9,11 @@ const CONTRAST: u32 = 0x0098_0901;
 // Set in the id of a look-up, it asks for the next higher id.
 const NEXT: u32 = 0x8000_0000;
 
-fn outcome(out: &mut impl Write, made: Setting) -> io::Result<()> {
+fn outcome(out: &mut impl Write, made: Result<Setting, Refusal>) -> io::Result<()> {
     match made {
-        Setting::Stored(_, v) => show_lines::line(out, b"stored as %i", &[v]),
-        Setting::Pressed => show_text::text(out, b"pressed"),
-        Setting::Refused(why) => show_text::number(out, b"refused with ", ioctl_table::errno(why)),
+        Ok(Setting::Stored(_, v)) => show_lines::line(out, b"stored as %i", &[v]),
+        Ok(Setting::Pressed) => show_text::text(out, b"pressed"),
+        Err(why) => show_text::number(out, b"refused with ", u32::from(why)),
     }
 }
 
@@ -23,12 +24,9 @@ fn set(out: &mut impl Write, s: &[u8; 324], id: u32, value: u32) -> io::Result<(
 }
 
 fn look_up(out: &mut impl Write, s: &[u8; 324], id: u32) -> io::Result<()> {
-    let place = control_place_rules::queried(s, id);
-    show_lines::line(
-        out,
-        b"%x looked up: place %d of %d\n",
-        &[id, place, control_place_rules::count(s)],
-    )
+    let count = control_place_rules::count(s);
+    let place = control_place_rules::queried(s, id).unwrap_or(count);
+    show_lines::line(out, b"%x looked up: place %d of %d\n", &[id, place, count])
 }
 
 // A value below zero is given as its 32 bits. What is not found has the place behind the last.

@@ -12,14 +12,12 @@ pub fn table(
     captions: &mut Captions,
     lists: &[u8],
 ) -> io::Result<()> {
-    let none = [0u8; 16];
-    let made = show_opening::open(&none);
-    let mut d = made.device;
+    let mut d = device_opening::closed_device();
     let mut e = show_lists::begun(true, 0, 0);
     for b in lists {
         e = show_lists::after(out, e, *b)?;
         if 32 < e.letter {
-            d = show_events::event(out, d, pictures, captions, e)?;
+            show_events::event(out, &mut d, pictures, captions, e)?;
         }
     }
     Ok(())

@@ -20,15 +20,23 @@ ghost use Rattle.ivtv_rules.specs.Reading.{unpack_number, unpacked};
 use arrival_replies::Told;
 use device_state::Device;
 use plane_rules::Place;
+use stream_maps::Change;
 
 // A device for this sheet, with a picture memory and a caption memory of these lengths; what d held before does not matter.
 #[unsafe(no_mangle)]
 pub extern "C" fn tg_open(d: &mut Device, sheet: &[u8], pictures: u64, captions: u64) -> u32
     ensures { (result ≡ (opened_of sheet.now pictures captions).number) × (whole_of d.new ≡ (opened_of sheet.now pictures captions).device) }
 {
-    let r = device_opening::open_device(sheet, pictures, captions);
-    *d = r.device;
-    r.number
+    match device_opening::open_device(sheet, pictures, captions) {
+        Ok(device) => {
+            *d = device;
+            0
+        }
+        Err(why) => {
+            *d = device_opening::closed_device();
+            u32::from(why)
+        }
+    }
 }
 
 // A request: any word, any argument.
@@ -39,7 +47,7 @@ pub extern "C" fn tg_request(d: &mut Device, word: u32, argument: &mut [u8]) -> 
         × (d.new.sheet ≡ d.old.sheet)
         × (argument.new ≡ (request_answer d.old.sheet (whole_of d.old).state word argument.old).argument) }
 {
-    device_requests::request(
+    ioctl_table::number(device_requests::request(
         &d.sheet,
         &mut d.setup,
         &mut d.values,
@@ -48,7 +56,7 @@ pub extern "C" fn tg_request(d: &mut Device, word: u32, argument: &mut [u8]) -> 
         &mut d.captions,
         word,
         argument,
-    )
+    ))
 }
 
 // A frame of a type arrives, with the memory of its stream lent; the time comes by its bits.
@@ -86,15 +94,16 @@ pub extern "C" fn tg_map(d: &mut Device, kind: u32, offset: u32, length: u32) ->
         × ((whole_of d.new).state ≡ (mapped_of Map (whole_of d.old).state kind offset length).state)
         × (d.new.sheet ≡ d.old.sheet) }
 {
-    device_maps::map(
+    ioctl_table::number(device_maps::change(
         &d.setup,
         &d.services,
         &mut d.video,
         &mut d.captions,
+        Change::Map,
         kind,
         offset,
         length,
-    )
+    ))
 }
 
 // A client has given up one map of the buffer.
@@ -104,15 +113,16 @@ pub extern "C" fn tg_unmap(d: &mut Device, kind: u32, offset: u32, length: u32) 
         × ((whole_of d.new).state ≡ (mapped_of Unmap (whole_of d.old).state kind offset length).state)
         × (d.new.sheet ≡ d.old.sheet) }
 {
-    device_maps::unmap(
+    ioctl_table::number(device_maps::change(
         &d.setup,
         &d.services,
         &mut d.video,
         &mut d.captions,
+        Change::Unmap,
         kind,
         offset,
         length,
-    )
+    ))
 }
 
 // The verdict on the film of a type: 0 RUNNING, 1 BLANK, 2 GAPS, 3 COMPLETE.
@@ -136,7 +146,7 @@ pub extern "C" fn tg_plane(d: &Device, bytes: usize, plane: u32) -> Place
 pub extern "C" fn tg_vbi_pack(lines: &[u8], block: &mut [u8]) -> u32
     ensures { (result ≡ pack_number lines.now (length block.old)) × (block.new ≡ packed lines.now block.old) }
 {
-    ivtv::pack(lines, block)
+    ioctl_table::number(ivtv::pack(lines, block))
 }
 
 // A block read into records of 64 bytes.
@@ -144,7 +154,7 @@ pub extern "C" fn tg_vbi_pack(lines: &[u8], block: &mut [u8]) -> u32
 pub extern "C" fn tg_vbi_unpack(block: &[u8], lines: &mut [u8]) -> u32
     ensures { (result ≡ unpack_number block.now (length lines.old)) × (lines.new ≡ unpacked block.now lines.old) }
 {
-    ivtv::unpack(block, lines)
+    ioctl_table::number(ivtv::unpack(block, lines))
 }
 
 // Bytes of a block of so many lines.

@@ -1,5 +1,7 @@
 -- The value and the limits go through their bits unchanged. Assumes nothing.
+use Prim.Native.Nat.{ℕ}
 use mathlib.Core.Path.{ap}
+use Rattle.std.specs.Prelude.{Ok}
 use Rattle.wire_signed.proofs.Integers.{again}
 use Rattle.control_value_rules.specs.declared.Setting.TheVariants.{Stored}
 use Rattle.control_value_rules.specs.Values.{ranged_at}
@@ -27,8 +29,8 @@ unfolding ranged_at
 returns c =
     let r = c.as_signed-v in
     let l = c.args.l in
-    let n = c.nearest_value in
+    let n = c.nearest_value-nearest in
     let e = rw (again r.result r.type_inv, again l.minimum c.struct_told-1.given.0.1, r.ensures) at c.if-v-l.false in
     let f = rw (again r.result r.type_inv, again l.maximum c.struct_told-2-1.given.1.0.1, r.ensures) at c.if-l-v.false in
     let k = c.args.k in
-    rw (e, f) (ap (Stored k) (rw (again n.result n.type_inv, n.ensures, again r.result r.type_inv, r.ensures) at c.as_bits.ensures))
+    rw (e, f) (ap (λ (b : ℕ). Ok (Stored k b)) (rw (again n.result n.type_inv, n.ensures, again r.result r.type_inv, r.ensures) at c.as_bits.ensures))

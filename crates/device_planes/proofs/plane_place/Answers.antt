@@ -6,7 +6,7 @@ use Rattle.device_planes.proofs.plane_place.Goals as goal
 
 pub returns-then-setup-eq0 : goal.returns-then-setup-eq0
 unfolding setup_in
-returns-then-setup-eq0 c x = plane_closed (with_setup x (setup_in c.args.setup.now)) c.if-setup-eq0.true _ _ _ c.errno-number.ensures
+returns-then-setup-eq0 c x = plane_closed (with_setup x (setup_in c.args.setup.now)) c.if-setup-eq0.true _ _ _ c.from-number.ensures
 
 pub returns : goal.returns
 unfolding setup_in

@@ -19,4 +19,4 @@ returns c =
     let w = c.write in
     let a = c.args in
     let e : packable a.lines.now (length a.block.now) ≡ false = sym w.ensures.0 ∙ c.if-write.false in
-    (rw e c.errno.ensures, w.ensures.1)
+    (rw e, w.ensures.1)

@@ -19,4 +19,4 @@ returns c =
     let w = c.read in
     let a = c.args in
     let e : readable a.block.now (length a.lines.now) ≡ false = sym w.ensures.0 ∙ c.if-read.false in
-    (rw e c.errno.ensures, w.ensures.1)
+    (rw e, w.ensures.1)

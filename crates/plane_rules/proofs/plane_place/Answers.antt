@@ -25,7 +25,7 @@ unfolding plane_refused
 returns-then-bytes-size c =
     let a = c.args in
     let refused : plane_refused a.f a.alignment a.bytes a.k ≡ true = rw (← c.image_size-size.ensures, ← c.plane_count.ensures) c.if-bytes-size.true in
-    ap none c.errno-number.ensures ∙ placed_by _ _ _ _ true refused
+    ap none c.from-number.ensures ∙ placed_by _ _ _ _ true refused
 
 pub returns : goal.returns
 unfolding plane_refused plane_length

@@ -1,32 +1,34 @@
 -- What the calls about the topic promise. Assumes nothing.
-use mathlib.Core.Path.{refl}
+use mathlib.Core.Path.{◌∙◌, refl, sym, ap}
+use Rattle.std.specs.Prelude.{Some}
 use Rattle.stream_words.proofs.Record.{granted_is}
 use Rattle.device_state.specs.Setup.{setup_in}
 use Rattle.device_state.specs.State.{state_in}
+use Rattle.request_topics.specs.declared.About.TheVariants.{Settings, Streams, Controls}
 use Rattle.request_topics.proofs.Cases.{topic_called, topic_nothing}
 use Rattle.device_requests.proofs.dispatch.called.Goals as goal
 
-pub returns-in-1 : goal.returns-in-1
-returns-in-1 c =
+pub returns-in-Some-Settings : goal.returns-in-Some-Settings
+returns-in-Some-Settings c =
     let a = c.args in
     let d = state_in a.setup.now a.values.now a.services.now a.video.now a.captions.now in
-    topic_called 1 a.call a.sheet.now d a.argument.now c.topic.ensures c.in-1.is (c.setting_request.ensures d (granted_is a.video.now) (granted_is a.captions.now))
+    topic_called Settings a.call a.sheet.now d a.argument.now (ap Some (sym c.in-Some-Settings.field-0-is) ∙ sym c.in-Some-Settings.is ∙ c.topic.ensures) (c.setting_request.ensures d (granted_is a.video.now) (granted_is a.captions.now))
 
-pub returns-in-2 : goal.returns-in-2
+pub returns-in-Some-Streams : goal.returns-in-Some-Streams
 unfolding setup_in
-returns-in-2 c =
+returns-in-Some-Streams c =
     let a = c.args in
     let d = state_in a.setup.now a.values.now a.services.now a.video.now a.captions.now in
-    topic_called 2 a.call a.sheet.now d a.argument.now c.topic.ensures c.in-2.is (c.stream_request.ensures a.sheet.now d refl refl)
+    topic_called Streams a.call a.sheet.now d a.argument.now (ap Some (sym c.in-Some-Streams.field-0-is) ∙ sym c.in-Some-Streams.is ∙ c.topic.ensures) (c.stream_request.ensures a.sheet.now d refl refl)
 
-pub returns-in-3 : goal.returns-in-3
-returns-in-3 c =
+pub returns-in-Some-Controls : goal.returns-in-Some-Controls
+returns-in-Some-Controls c =
     let a = c.args in
     let d = state_in a.setup.now a.values.now a.services.now a.video.now a.captions.now in
-    topic_called 3 a.call a.sheet.now d a.argument.now c.topic.ensures c.in-3.is (c.control_request.ensures d)
+    topic_called Controls a.call a.sheet.now d a.argument.now (ap Some (sym c.in-Some-Controls.field-0-is) ∙ sym c.in-Some-Controls.is ∙ c.topic.ensures) (c.control_request.ensures d)
 
-pub returns-in_default : goal.returns-in_default
-returns-in_default c =
+pub returns-in-None : goal.returns-in-None
+returns-in-None c =
     let a = c.args in
     let d = state_in a.setup.now a.values.now a.services.now a.video.now a.captions.now in
-    topic_nothing a.sheet.now d a.argument.now a.call c.topic.ensures c.in_default.in_default-own.rest.0.0.1 c.in_default.in_default-own.rest.0.1 c.in_default.in_default-own.rest.1 c.errno.ensures
+    topic_nothing a.call a.sheet.now d a.argument.now (sym c.in-None.is ∙ c.topic.ensures)

@@ -8,7 +8,7 @@ pub returns-then-setup-eq0 : goal.returns-then-setup-eq0
 unfolding setup_in
 returns-then-setup-eq0 c =
     let a = c.args in
-    request_closed _ (state_in a.setup.now a.values.now a.services.now a.video.now a.captions.now) _ _ c.if-setup-eq0.true c.errno.ensures
+    request_closed _ (state_in a.setup.now a.values.now a.services.now a.video.now a.captions.now) _ _ c.if-setup-eq0.true
 
 pub returns : goal.returns
 unfolding setup_in
