@@ -1,16 +1,15 @@
 // The number that a reply gives back to a client.
 ghost use Rattle.std.specs.Prelude.{◌≡◌};
-ghost use Rattle.stream_run.specs.Replies.{done};
-ghost use Rattle.stream_run.specs.Numbers.{reply_number};
+ghost use Rattle.stream_run.specs.Numbers.{number_of};
 
 use ioctl_table::Refusal;
 
-// 0, or that of the refusal.
-pub fn reply_number(r: Result<(), Refusal>) -> u32
-    ensures { result ≡ reply_number (done r) }
+// 0 whatever the call gives, or that of the refusal.
+pub fn reply_number<T: Drop>(r: Result<T, Refusal>) -> u32
+    ensures { result ≡ number_of r }
 {
     match r {
-        Ok(()) => 0,
+        Ok(_) => 0,
         Err(why) => ioctl_table::errno(why),
     }
 }
