@@ -14,7 +14,6 @@ use Rattle.stream_words.specs.Stream.{Stream}
 use Rattle.stream_maps.specs.declared.Change.{Change}
 use Rattle.stream_maps.specs.Maps.{maps_of, blocked, why_not}
 use Rattle.stream_run.specs.Replies.{Reply as StreamReply}
-use Rattle.stream_run.specs.Replies.{Reply as replies}
 use Rattle.stream_run.specs.Numbers.{reply_number}
 use Rattle.stream_run.specs.Switches.{Step}
 use Rattle.stream_mmap.specs.Mapping.{change_of}
@@ -106,7 +105,7 @@ other_mapped Kind.captions c d t o l n = rw n (go (eqb d.ready 0) (eqb t 1))
 
 -- a number that is not 0 is that of a refusal
 pub by_number : (r : StreamReply) (e : Event) → cond (eqb (reply_number r) 0) e idle ≡ cond (refused_reply r) idle e
-by_number replies.Done e = refl
-by_number (replies.Granted n) e = refl
-by_number (replies.Returned f) e = refl
-by_number (replies.Refused why) e = rw (ne_eqb (errno_of why) 0 (λ z. omega (arith, errno_positive why, z)))
+by_number StreamReply.Done e = refl
+by_number (StreamReply.Granted n) e = refl
+by_number (StreamReply.Returned f) e = refl
+by_number (StreamReply.Refused why) e = rw (ne_eqb (errno_of why) 0 (λ z. omega (arith, errno_positive why, z)))

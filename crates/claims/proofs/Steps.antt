@@ -29,7 +29,6 @@ use Rattle.stream_words.specs.declared.Time.{Time}
 use Rattle.stream_words.specs.declared.Filled.{Filled}
 use Rattle.stream_maps.specs.Maps.{any_mapped}
 use Rattle.stream_run.specs.Replies.{Reply as StreamReply}
-use Rattle.stream_run.specs.Replies.{Reply as replies}
 use Rattle.stream_run.specs.Switches.{Step}
 use Rattle.stream_words.specs.Stream.{Stream}
 use Rattle.stream_run.specs.Stream.{reduced, streaming, stopped}
@@ -149,16 +148,16 @@ pub record Does (k : Kind) (b : Box) (p : Paper) (call : Asked) (a : List ℕ) (
 
 -- a refusal has a number, and nothing else has
 refused_number : (y : StreamReply) → refused_reply y ≡ true → eqb (reply_number y) 0 ≡ false
-refused_number replies.Done h = absurd (true≢false (sym h))
-refused_number (replies.Granted n) h = absurd (true≢false (sym h))
-refused_number (replies.Returned g) h = absurd (true≢false (sym h))
-refused_number (replies.Refused why) h = ne_eqb (errno_of why) 0 (λ e. omega (arith, errno_positive why, e))
+refused_number StreamReply.Done h = absurd (true≢false (sym h))
+refused_number (StreamReply.Granted n) h = absurd (true≢false (sym h))
+refused_number (StreamReply.Returned g) h = absurd (true≢false (sym h))
+refused_number (StreamReply.Refused why) h = ne_eqb (errno_of why) 0 (λ e. omega (arith, errno_positive why, e))
 
 accepted_number : (y : StreamReply) → refused_reply y ≡ false → reply_number y ≡ 0
-accepted_number replies.Done h = refl
-accepted_number (replies.Granted n) h = refl
-accepted_number (replies.Returned g) h = refl
-accepted_number (replies.Refused why) h = absurd (true≢false h)
+accepted_number StreamReply.Done h = refl
+accepted_number (StreamReply.Granted n) h = refl
+accepted_number (StreamReply.Returned g) h = refl
+accepted_number (StreamReply.Refused why) h = absurd (true≢false h)
 
 -- a test that fails has nothing behind it
 pub never_told : (x : Bool) (v : Event) → cond x (cond false v idle) idle ≡ idle
@@ -322,7 +321,7 @@ told_count s n kind size a l = go (any_mapped s.maps) (streaming s && not (eqb n
     g = grant_of s.length n size
 
     r : Bool → Bool → Step
-    r x y = cond x (refuses StillMapped s) (cond y (refuses busy s) (answers (replies.Granted (grant_of s.length n size)) (stopped s (grant_of s.length n size))))
+    r x y = cond x (refuses StillMapped s) (cond y (refuses busy s) (answers (StreamReply.Granted (grant_of s.length n size)) (stopped s (grant_of s.length n size))))
 
     go : (x y : Bool) → refused_reply (r x y).reply ≡ false → word_at (request_reply (r x y).reply kind a) 0 ≡ grant_in (r x y).reply
     go true y h = absurd (true≢false h)
@@ -375,12 +374,12 @@ module _ (k : Kind) (b : Box) (p : Paper) (a : List ℕ) (safe : Safe k b p) whe
       (follows (view k b) p (hands_in (word_at a 0)) safe.kept.tied safe.kept.sound) (λ ok. refl) tt (λ ok f. tt))
 
   -- the buffer that DQBUF answers is the first outgoing one
-  told_buffer : length a ≡ 68 → (r : StreamReply) (x : Stream) → x.maps ≡ p.maps → replied r ≡ replied (replies.Returned (first_of p.outgoing))
+  told_buffer : length a ≡ 68 → (r : StreamReply) (x : Stream) → x.maps ≡ p.maps → replied r ≡ replied (StreamReply.Returned (first_of p.outgoing))
       → answered 0 (dequeue_reply r x (type_of k) (size_of k b.state) a) ≡ answered 0 (buffer_reply (type_of k) (returned_of p.maps (first_of p.outgoing) p.size))
   told_buffer l r x m e =
       let size : ℕ = size_of k b.state in
       let f : Filled = first_of p.outgoing in
-      let same : r ≡ replies.Returned f = cc e in
+      let same : r ≡ StreamReply.Returned f = cc e in
       ap (λ (z : StreamReply). answered 0 (dequeue_reply z x (type_of k) size a)) same
       ∙ ap (answered 0) (whole_reply a (buffer_reply (type_of k) (returned_of x.maps f size)) 68 l (buffer_length (type_of k) (returned_of x.maps f size)))
       ∙ ap₂ (λ (v : List ℕ) (n : ℕ). answered 0 (buffer_reply (type_of k) (returned_of v f n))) m safe.kept.tied.size
@@ -413,8 +412,8 @@ module _ (k : Kind) (b : Box) (p : Paper) (a : List ℕ) (safe : Safe k b p) whe
     sizing : eqb (word_at a 0) (type_of k) ≡ true → eqb (stream_of k b.state).queues.granted 0 ≡ true → (d : State) (after : List ℕ) → request_told k p SFmt a after ≡ sized n → eqb d.ready 0 ≡ false → Sized b.sheet d
         → view k (box_with b d) ≡ record { stream = stream_of k b.state; size = n; memory = b.memory k } → Does k b p SFmt a (done d after)
     sizing named e d after t r z v =
-        let f : Follows (record { stream = stream_of k b.state; size = n; memory = b.memory k }) p (resizes n) (replied replies.Done) =
-        subst (λ (x : Bool). Follows (record { stream = stream_of k b.state; size = cond x n (size_of k b.state); memory = b.memory k }) p (resizes n) (replied (cond x replies.Done (replies.Refused BuffersExist)))) e resized in
+        let f : Follows (record { stream = stream_of k b.state; size = n; memory = b.memory k }) p (resizes n) (replied StreamReply.Done) =
+        subst (λ (x : Bool). Follows (record { stream = stream_of k b.state; size = cond x n (size_of k b.state); memory = b.memory k }) p (resizes n) (replied (cond x StreamReply.Done (StreamReply.Refused BuffersExist)))) e resized in
         record {
           event = sized n;
           tells = ap (λ (x : Bool). cond x (request_told k p SFmt a after) idle) named ∙ t;

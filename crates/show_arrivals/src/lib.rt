@@ -44,9 +44,7 @@ fn whole(c: u8, bytes: u64, size: u32, time: Time) -> bool {
 fn taken(s: &mut Words, memory: &mut [u8], frame: &[u8], e: Event, a: &mut [u8]) -> u8 {
     let time = stream_frames::time_of(e.clock, e.number);
     let called = whole(e.letter, frame.len() as u64, e.size, time);
-    let told = Told::from(stream_arrival::arrive(
-        s, memory, frame, called, e.size, time,
-    ));
+    let told = Told::from(stream_arrival::arrive(s, memory, frame, called, e.size, time));
     wire_store::put_words(a, 0, &[told.number, told.buffer]);
     (told.kind % 5 + 48) as u8
 }

@@ -9,7 +9,8 @@ pub use decision::decide;
 use ioctl_table::Refusal;
 pub use store::arrive;
 
-// What an arrival is answered. A stored one tells the buffer and the frame's number.
+// What an arrival is answered. A stored one tells the buffer and the frame's number. A refusal is one of these, and no `Err`: so the claims
+// `demand_1` to `demand_3` speak of what an arrival is answered (`Arrival` in claims/specs).
 #[derive(Clone, Copy)]
 pub enum Arrival {
     Refused(Refusal),

@@ -24,7 +24,7 @@ pub fn is_mapped(s: &Words, k: u32) -> bool
     false
 }
 
-// Whether one of them is. All counts are looked at, so that they can be taken several at a time.
+// Whether one of them is. All counts are looked at, where `any` would stop at the first, so that they can be taken several at a time.
 pub fn any_mapped(s: &Words) -> bool
     ensures { result ≡ any_mapped (stream_in s.now).maps }
 {

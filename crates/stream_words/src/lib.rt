@@ -31,7 +31,8 @@ pub enum Standing {
     Outgoing(Filled),
 }
 
-// The words of a stream.
+// The words of a stream, as the header lays them out for C (`tg_stream`). They are one array, the rings side by side, and no struct, since
+// `stream_in`, by which the contracts say what stands in them, reads a list of words.
 pub type Words = [u64; 208];
 
 // The length of the memory as it was noted at opening; whether a run is on, and whether there was one (not 0); what became of the
