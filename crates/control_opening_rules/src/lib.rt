@@ -10,13 +10,10 @@ use control_value_rules::Values;
 pub fn at_opening(s: &[u8]) -> Values
     ensures { result ≡ opening_values s.now }
 {
-    let n = control_place_rules::count(s);
     let mut values = [0u32; 32];
-    let mut k: u32 = 0;
-    while k < n {
+    for k in 0..control_place_rules::count(s) {
         let at = sheet_contents::control_at(s, k);
         values[k as usize] = wire_read::word_at(s, at + 52);
-        k += 1;
     }
     values
 }

@@ -24,12 +24,10 @@ pub const NV12: u32 = 0x3231564E;
 pub(crate) fn bytes_per_pixel(code: u32) -> u32
     ensures { result ≡ bytes_per_pixel code }
 {
-    if (code == RGB3) | (code == BGR3) {
-        3
-    } else if (code == YUYV) | (code == UYVY) | (code == RGBP) {
-        2
-    } else {
-        1
+    match code {
+        RGB3 | BGR3 => 3,
+        YUYV | UYVY | RGBP => 2,
+        _ => 1,
     }
 }
 
@@ -37,10 +35,9 @@ pub(crate) fn bytes_per_pixel(code: u32) -> u32
 pub fn colour_space(code: u32) -> u32
     ensures { result ≡ colour_space code }
 {
-    if (code == RGBP) | (code == RGB3) | (code == BGR3) {
-        8
-    } else {
-        1
+    match code {
+        RGB3 | BGR3 | RGBP => 8,
+        _ => 1,
     }
 }
 
@@ -48,5 +45,5 @@ pub fn colour_space(code: u32) -> u32
 pub(crate) fn half_chroma(code: u32) -> bool
     ensures { result ≡ half_chroma code }
 {
-    (code == YU12) | (code == YV12) | (code == NV12)
+    matches!(code, YU12 | YV12 | NV12)
 }

@@ -9,13 +9,6 @@ ghost use Rattle.grid_rules.specs.Grid.{nearest_up_to, nearest_size, nearest_val
 use sheet_geometry::Range;
 use sheet_records::Limits;
 
-// a less b, 0 where b is greater.
-fn minus(a: u32, b: u32) -> u32
-    ensures { result ≡ a - b }
-{
-    if a < b { 0 } else { a - b }
-}
-
 // The number of the grid nearest to the one asked: just under half a step is added, so that a tie goes down, and what is
 // not a whole step is cut off. The sum can pass 32 bits.
 fn nearest(least: u32, greatest: u32, step: u32, asked: u32) -> u32
@@ -25,13 +18,9 @@ fn nearest(least: u32, greatest: u32, step: u32, asked: u32) -> u32
         return least;
     }
     let by = step as u64;
-    let top = minus(greatest, least);
-    let n = (minus(asked, least) as u64 + (by - 1) / 2) / by * by;
-    if n < top as u64 {
-        least + n as u32
-    } else {
-        least + top
-    }
+    let top = greatest.saturating_sub(least);
+    let n = (asked.saturating_sub(least) as u64 + (by - 1) / 2) / by * by;
+    least + n.min(top as u64) as u32
 }
 
 // The allowed size nearest to the one asked, the smaller on a tie.
@@ -53,7 +42,7 @@ fn counted(z: i32) -> u32
 pub fn nearest_value(l: Limits, value: i32) -> i32
     ensures { result ≡ nearest_value l value }
 {
-    let step = minus(counted(l.step), 0x8000_0000);
+    let step = counted(l.step).saturating_sub(0x8000_0000);
     let n = nearest(counted(l.minimum), counted(l.maximum), step, counted(value));
     wire_signed::as_signed(wire_signed::biased(n))
 }

@@ -1,26 +1,16 @@
 // What the device makes of a format that a client asks for.
-ghost use Rattle.std.specs.Prelude.{◌≡◌, min};
+ghost use Rattle.std.specs.Prelude.{◌≡◌};
 ghost use Rattle.negotiation_rules.specs.Negotiation.{offers_among, offered, chosen_code, negotiated, opening_format, asked_format};
 
 use format_rules::Format;
-
-// The number, 9 where it is greater.
-fn at_most_nine(n: u32) -> u32
-    ensures { result ≡ min n 9 }
-{
-    if n <= 9 { n } else { 9 }
-}
 
 // Whether one of the sheet's formats has the code. A good sheet has at most nine, and no more are looked at.
 fn offers(s: &[u8], code: u32) -> bool
     ensures { result ≡ offers_among s.now code (offered s.now) }
 {
-    let n = at_most_nine(sheet_contents::format_count(s));
     let mut found = false;
-    let mut k: u32 = 0;
-    while k < n {
-        found = found | (sheet_records::format_code(s, k) == code);
-        k += 1;
+    for k in 0..sheet_contents::format_count(s).min(9) {
+        found |= sheet_records::format_code(s, k) == code;
     }
     found
 }

@@ -36,15 +36,18 @@ fn identity_ok(s: &[u8]) -> bool
 fn known_code(c: u32) -> bool
     ensures { result ≡ known_code c }
 {
-    (c == 0x59455247)
-        | (c == 0x56595559)
-        | (c == 0x59565955)
-        | (c == 0x50424752)
-        | (c == 0x33424752)
-        | (c == 0x33524742)
-        | (c == 0x32315559)
-        | (c == 0x32315659)
-        | (c == 0x3231564E)
+    matches!(
+        c,
+        0x59455247
+            | 0x56595559
+            | 0x59565955
+            | 0x50424752
+            | 0x33424752
+            | 0x33524742
+            | 0x32315559
+            | 0x32315659
+            | 0x3231564E
+    )
 }
 
 // Whether format k has a code of its own among those before it.
@@ -52,13 +55,7 @@ fn new_code(s: &[u8], k: u32) -> bool
     ensures { result ≡ new_code s.now k k }
 {
     let c = sheet_records::format_code(s, k);
-    let mut ok = true;
-    let mut j: u32 = 0;
-    while j < k {
-        ok = ok & (sheet_records::format_code(s, j) != c);
-        j += 1;
-    }
-    ok
+    (0..k).all(|j| sheet_records::format_code(s, j) != c)
 }
 
 // Format k.
@@ -74,13 +71,7 @@ fn format_ok(s: &[u8], k: u32) -> bool
 fn formats_ok(s: &[u8], n: u32) -> bool
     ensures { result ≡ formats_ok s.now n }
 {
-    let mut ok = true;
-    let mut k: u32 = 0;
-    while k < n {
-        ok = ok & format_ok(s, k);
-        k += 1;
-    }
-    ok
+    (0..n).all(|k| format_ok(s, k))
 }
 
 // The four bodies.

@@ -49,11 +49,5 @@ fn rising(s: &[u8], k: u32) -> bool
 pub fn controls_ok(s: &[u8], n: u32) -> bool
     ensures { result ≡ controls_ok s.now n }
 {
-    let mut ok = true;
-    let mut k: u32 = 0;
-    while k < n {
-        ok = ok & (control_ok(s, k) & rising(s, k));
-        k += 1;
-    }
-    ok
+    (0..n).all(|k| control_ok(s, k) & rising(s, k))
 }

@@ -10,7 +10,7 @@ ghost use Rattle.sheet_rules.specs.Rules.{alignment_ok, bound_ok, inside_ok, bou
 fn alignment_ok(a: u32) -> bool
     ensures { result ≡ alignment_ok a }
 {
-    (a == 2) | (a == 4) | (a == 8) | (a == 16) | (a == 32) | (a == 64)
+    matches!(a, 2 | 4 | 8 | 16 | 32 | 64)
 }
 
 // One direction of the bounds; -32768, 32767, 1 and 8192 counted from -2^31.

@@ -1,18 +1,11 @@
 // Numbers that go from a least one by a step: sizes, and the values of a control.
 // A signed number is handed over as its word and compared by its distance from -2^31.
-ghost use Rattle.std.specs.Prelude.{◌≡◌, eqb, ◌-◌, ◌%◌};
+ghost use Rattle.std.specs.Prelude.{◌≡◌, eqb, ◌%◌};
 ghost use Rattle.wire_signed.specs.Signed.{signed};
 ghost use Rattle.sheet_rules.specs.Rules.{range_ok, on_grid, grid_ok};
 ghost use Rattle.sheet_rules.specs.Words.{limits_of_words};
 
 use sheet_geometry::Range;
-
-// a less b, 0 where b is greater.
-fn minus(a: u32, b: u32) -> u32
-    ensures { result ≡ a - b }
-{
-    if a < b { 0 } else { a - b }
-}
 
 // Whether step divides x; by 0 only 0 is.
 fn multiple_of(x: u32, step: u32) -> bool
@@ -31,7 +24,7 @@ pub fn range_ok(r: Range) -> bool
         & (r.least % 2 == 0)
         & (r.step % 2 == 0)
         & (2 <= r.step)
-        & multiple_of(minus(r.greatest, r.least), r.step)
+        & multiple_of(r.greatest.saturating_sub(r.least), r.step)
 }
 
 // Whether the value is reached from the least one by the step.
@@ -40,8 +33,8 @@ fn on_grid(least: u32, step: u32, value: u32) -> bool
 {
     let l = wire_signed::biased(least);
     let v = wire_signed::biased(value);
-    let by = minus(wire_signed::biased(step), 0x8000_0000);
-    (l <= v) & multiple_of(minus(v, l), by)
+    let by = wire_signed::biased(step).saturating_sub(0x8000_0000);
+    (l <= v) & multiple_of(v.saturating_sub(l), by)
 }
 
 // Whether four numbers are a grid with a default on it.

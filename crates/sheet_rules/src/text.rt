@@ -6,11 +6,5 @@ ghost use Rattle.sheet_rules.specs.Rules.{has_zero};
 pub fn has_zero(t: &[u8]) -> bool
     ensures { result ≡ has_zero t.now }
 {
-    let mut found = false;
-    let mut j: usize = 0;
-    while j < t.len() {
-        found = found | (t[j] == 0);
-        j += 1;
-    }
-    found
+    t.contains(&0)
 }

@@ -20,13 +20,15 @@ one_more_law s values k at w p q r = rw add-one (cc)
 
 pub loop-k-init : goal.loop-k-init
 unfolding present default_values
-loop-k-init c = (omega arith, omega (arith, c.count-n.ensures), refl, refl)
+loop-k-init c = (omega (arith, c.count-k-end.ensures), refl, refl)
 
 pub loop-k-preserved : goal.loop-k-preserved
 loop-k-preserved c =
     let i = c.loop-k.invariant in
-    (search rules, i.1, search rules, one_more_law _ _ _ _ _ i.3 c.control_at-at.ensures.0 c.word_at.ensures)
+    (i.0, search rules, one_more_law _ _ _ _ _ i.2 c.control_at-at.ensures.0 c.word_at.ensures)
 
 pub returns : goal.returns
 unfolding opening_values
-returns c = let l = c.loop-k.invariant in l.3 ∙ ap (default_values _) (le_antisymm l.0 c.loop-k-test.false ∙ c.count-n.ensures)
+returns c =
+    let l = c.loop-k in
+    l.invariant.2 ∙ ap (default_values _) (le_antisymm l.auto.k-end c.loop-k-test.false ∙ c.count-k-end.ensures)

@@ -7,10 +7,6 @@ pub returns-then-step-eq0 : goal.returns-then-step-eq0
 unfolding nearest_up_to nearest_multiple
 returns-then-step-eq0 c = rw c.if-step-eq0.true (omega arith)
 
-pub returns-then-n-top : goal.returns-then-n-top
+pub returns : goal.returns
 unfolding nearest_up_to nearest_multiple
-returns-then-n-top c = rw (← c.minus-top.ensures, ← c.minus.ensures) (omega arith)
-
-pub returns-else-n-top : goal.returns-else-n-top
-unfolding nearest_up_to nearest_multiple
-returns-else-n-top c = rw (← c.minus-top.ensures, ← c.minus.ensures) (omega arith)
+returns c = rw (← c.saturating_sub-top.ensures, ← c.saturating_sub.ensures) (omega (arith, c.min.ensures))

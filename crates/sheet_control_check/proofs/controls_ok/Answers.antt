@@ -1,17 +1,18 @@
--- The invariant: ok is what the controls passed say. Assumes nothing.
-use mathlib.Core.Path.{refl, sym, ◌∙◌}
-use native.Mathlib.Omega.{arith}
-use Rattle.sheet_rules.specs.Folds.{all_below}
-use Rattle.sheet_rules.specs.Rules.{controls_ok}
-use Rattle.sheet_rules.proofs.Folding.{turn, all_more}
-use Rattle.sheet_rules.proofs.Truth.{◌and◌}
+-- All numbers below the bound are looked at until one fails. Assumes nothing.
+use Rattle.std.proofs.Common.{◌≡◌, ℕ, true, false, ◌&&◌, arith, refl, rules, tests}
+use Rattle.std.proofs.lemmas.Iterator.{cases_from_all, YieldsList-from_range}
+use Rattle.sheet_rules.specs.Rules.{control_ok, rising_at, controls_ok}
+use Rattle.sheet_rules.proofs.Folding.{all_told}
 use Rattle.sheet_control_check.proofs.controls_ok.Goals as goal
 
-pub loop-k-init : goal.loop-k-init
-unfolding controls_ok all_below
-loop-k-init c = (omega arith, refl)
-
-pub loop-k-preserved : goal.loop-k-preserved
+pub returns : goal.returns
 unfolding controls_ok
-loop-k-preserved c =
-    (turn c.loop-k-test.true, (c.loop-k.invariant.1 and (c.control_ok.ensures and c.rising.ensures)) ∙ sym (all_more _ _))
+returns c =
+    let a = c.args in
+    let s = a.s.now in
+    let p = λ (k : ℕ). control_ok s k && rising_at s k in
+    all_told a.n p c.all.result (
+    cases_from_all _ _ _ (λ k. p k ≡ true) (λ k. p k ≡ false) c.all.ensures.ran (YieldsList-from_range 0 a.n a.n refl (omega arith))
+    (λ j q h. search (rules, tests))
+    (λ j q h. search (rules, tests))
+    )

@@ -1,15 +1,26 @@
--- One test after the other, as in the definition. Assumes nothing.
-use Rattle.format_rules.specs.Code.{bytes_per_pixel}
+-- The codes are the definition's. Assumes nothing.
+use borrow.Author.Rules.{rules}
+use borrow.Author.Tests.{ne_eqb}
+use mathlib.Core.Logic.{⊎_elim}
+use Rattle.format_rules.specs.Code.{YUYV, UYVY, RGBP, RGB3, BGR3, bytes_per_pixel}
 use Rattle.format_rules.proofs.code.bytes_per_pixel.Goals as goal
 
-pub returns-then-code : goal.returns-then-code
+pub returns-in-859981650 : goal.returns-in-859981650
 unfolding bytes_per_pixel
-returns-then-code c = rw c.if-code.true
+returns-in-859981650 c = ⊎_elim (λ e. rw e) (λ e. rw e) c.in-859981650.is
 
-pub returns-then-code-2 : goal.returns-then-code-2
+pub returns-in-1448695129 : goal.returns-in-1448695129
 unfolding bytes_per_pixel
-returns-then-code-2 c = rw (c.if-code.false, c.if-code-2.true)
+returns-in-1448695129 c = ⊎_elim (λ e. rw e) (λ h. ⊎_elim (λ e. rw e) (λ e. rw e) h) c.in-1448695129.is
 
-pub returns-else-code-2 : goal.returns-else-code-2
+pub returns-in_default : goal.returns-in_default
 unfolding bytes_per_pixel
-returns-else-code-2 c = rw (c.if-code.false, c.if-code-2.false)
+returns-in_default c =
+    let a = c.args.code in
+    rw (
+      ne_eqb a RGB3 (search rules),
+      ne_eqb a BGR3 (search rules),
+      ne_eqb a YUYV (search rules),
+      ne_eqb a UYVY (search rules),
+      ne_eqb a RGBP (search rules),
+    )

@@ -7,7 +7,7 @@ use Rattle.format_rules.proofs.layout.bytes_per_line.Goals as goal
 
 pub overflow_mul-used : goal.overflow_mul-used
 overflow_mul-used c =
-    let w = c.least.result in
+    let w = c.min.result in
     record { fits = rw c.bytes_per_pixel.ensures (omega (arith, line_used w c.args.f.code (omega arith))) }
 
 pub overflow_cast-result : goal.overflow_cast-result

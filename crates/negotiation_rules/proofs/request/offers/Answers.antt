@@ -3,25 +3,24 @@ use mathlib.Core.Path.{refl, sym, ap, ap₂, ◌∙◌}
 use Prim.Native.Nat.{ℕ, min}
 use mathlib.Core.Bool.{◌||◌}
 use lib.Dec.{eqb}
-use native.Mathlib.Omega.{arith}
 use native.Mathlib.Nat.{le_antisymm}
 use Rattle.sheet_rules.specs.Folds.{any_below}
-use Rattle.sheet_rules.proofs.Folding.{turn, any_more}
+use Rattle.sheet_rules.proofs.Folding.{any_more}
 use Rattle.negotiation_rules.specs.Negotiation.{offers_among, offered}
 use Rattle.negotiation_rules.proofs.request.offers.Goals as goal
 
 pub loop-k-init : goal.loop-k-init
 unfolding offers_among any_below
-loop-k-init c = (omega arith, refl)
+loop-k-init c = refl
 
 pub loop-k-preserved : goal.loop-k-preserved
 unfolding offers_among
 loop-k-preserved c =
     let code = c.args.code in
-    (turn c.loop-k-test.true, ap₂ ◌||◌ c.loop-k.invariant.1 (ap (λ (w : ℕ). eqb w code) c.format_code.ensures) ∙ sym (any_more _ _))
+    ap₂ ◌||◌ c.loop-k.invariant (ap (λ (w : ℕ). eqb w code) c.format_code.ensures) ∙ sym (any_more _ _)
 
 pub returns : goal.returns
 unfolding offered
 returns c =
-    let l = c.loop-k.invariant in
-    l.1 ∙ ap (offers_among _ _) (le_antisymm l.0 c.loop-k-test.false ∙ c.at_most_nine-n.ensures ∙ ap (λ (m : ℕ). min m 9) c.format_count.ensures)
+    let l = c.loop-k in
+    l.invariant ∙ ap (offers_among _ _) (le_antisymm l.auto.k-end c.loop-k-test.false ∙ c.min-k-end.ensures ∙ ap (λ (m : ℕ). min m 9) c.format_count.ensures)

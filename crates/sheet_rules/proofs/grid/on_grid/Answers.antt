@@ -19,7 +19,7 @@ returns c =
     let uv = word_under v c.ranges.value.fits in
     let bv = c.biased-v.ensures in
     let bl = c.biased-l.ensures in
-    let between = c.minus.ensures ∙ ap₂ ◌-◌ bv bl ∙ sym (gap 2147483648 (signed v) (signed l) uv ul) in
-    let by = c.minus-by.ensures ∙ ap (λ (n : ℕ). n - 2147483648) c.biased.ensures ∙ sym (natural_count 2147483648 (signed p) (word_under p c.ranges.step.fits)) in
+    let between = c.saturating_sub.ensures ∙ ap₂ ◌-◌ bv bl ∙ sym (gap 2147483648 (signed v) (signed l) uv ul) in
+    let by = c.saturating_sub-by.ensures ∙ ap (λ (n : ℕ). n - 2147483648) c.biased.ensures ∙ sym (natural_count 2147483648 (signed p) (word_under p c.ranges.step.fits)) in
     (ap₂ leb bl bv ∙ sym (le_words l v c.ranges.least.fits c.ranges.value.fits))
     and (c.multiple_of.ensures ∙ ap₂ (λ (x n : ℕ). eqb (x % n) 0) between by)

@@ -11,4 +11,4 @@ unfolding range_ok
 returns c =
     let r = c.args.r in
     ap (λ (t : Bool). leb 2 r.least && leb r.greatest 8192 && leb r.least r.greatest && eqb (r.least % 2) 0 && eqb (r.step % 2) 0 && leb 2 r.step && t)
-    (c.multiple_of.ensures ∙ ap (λ (n : ℕ). eqb (n % r.step) 0) c.minus.ensures)
+    (c.multiple_of.ensures ∙ ap (λ (n : ℕ). eqb (n % r.step) 0) c.saturating_sub.ensures)

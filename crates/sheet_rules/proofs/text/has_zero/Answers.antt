@@ -1,19 +1,7 @@
--- The invariant: found is what the bytes passed say. Assumes nothing.
-use mathlib.Core.Path.{◌≡◌, refl}
-use native.Mathlib.Omega.{arith}
-use lib.ListN.{length}
-use Rattle.sheet_rules.specs.Folds.{any_below}
-use Rattle.sheet_rules.specs.Rules.{has_zero}
-use Rattle.sheet_rules.proofs.Folding.{any_more}
+-- What the search says of the bytes. Assumes nothing.
+use mathlib.Core.Path.{◌∙◌}
+use Rattle.sheet_rules.proofs.Folding.{contains_zero}
 use Rattle.sheet_rules.proofs.text.has_zero.Goals as goal
 
-pub loop-j-init : goal.loop-j-init
-unfolding any_below
-loop-j-init c = (omega arith, refl)
-
-pub loop-j-preserved : goal.loop-j-preserved
-loop-j-preserved c = (omega arith, rw any_more (cc))
-
 pub returns : goal.returns
-unfolding has_zero
-returns c = let e : c.loop-j.j ≡ length c.args.t.now = omega arith in cc
+returns c = c.contains.ensures.value ∙ contains_zero c.args.t.now
