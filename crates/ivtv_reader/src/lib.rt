@@ -1,16 +1,16 @@
 // A block read. All of it is looked at before anything is written.
 #![tactic(auto)]
 
-ghost use Rattle.std.specs.Prelude.{◌≡◌, ◌+◌, ◌*◌, ◌≤◌, ◌<◌, length};
+ghost use Rattle.std.specs.Prelude.{◌≡◌, ◌+◌, ◌*◌, ◌-◌, ◌/◌, ◌≤◌, ◌<◌, length};
 ghost use Rattle.std.proofs.lemmas.List.Edits.{sets};
 ghost use Rattle.ivtv_rules.specs.Block.{joined};
 ghost use Rattle.ivtv_rules.specs.Reading.{opens, mask_in, start_in, good_opening, count_in, good_body, readable, unpacked};
 ghost use Rattle.ivtv_reader.specs.Stored.{record_in, Room};
 
 // All 36 bits, and the first one behind them.
-const ALL: u64 = 68719476735;
+const ALL: u64 = BEYOND - 1;
 
-const BEYOND: u64 = 68719476736;
+const BEYOND: u64 = 1 << 36;
 
 // Whether a block opens with four letters.
 fn opens(block: &[u8], letters: &[u8]) -> bool
@@ -20,8 +20,7 @@ fn opens(block: &[u8], letters: &[u8]) -> bool
     if block.len() < 4 {
         return false;
     }
-    (letters[0] == block[0])
-        & ((letters[1] == block[1]) & ((letters[2] == block[2]) & (letters[3] == block[3])))
+    letters == &block[..4]
 }
 
 // The mask of a block.
@@ -56,19 +55,15 @@ fn count_in(mask: u64) -> usize
     u64::count_ones(mask % BEYOND) as usize
 }
 
-// Whether n lines are good.
-fn good_body(block: &[u8], start: usize, n: usize) -> bool
-    requires { (n ≤ 36) × (start ≤ 12) × (start + 43 * n ≤ length block.now) }
-    ensures { result ≡ good_body block.now start n }
+// Whether the lines from a place on are good.
+fn good_body(block: &[u8], start: usize) -> bool
+    requires { start ≤ length block.now }
+    ensures { result ≡ good_body block.now start ((length block.now - start) / 43) }
 {
-    let mut j: usize = 0;
-    while j < n {
-        let at = start + 43 * j;
-        let end = at + 43;
-        if !ivtv_lines::good_line(&block[at..end]) {
+    for line in block[start..].chunks_exact(43) {
+        if !ivtv_lines::good_line(line) {
             return false;
         }
-        j += 1;
     }
     true
 }
@@ -88,11 +83,12 @@ fn plan(block: &[u8], room: usize) -> bool
     if room != 64 * n {
         return false;
     }
-    good_body(block, start, n)
+    good_body(block, start)
 }
 
-// The lines of the bits that are set in a mask, from the lowest up, stored as records. What is left of the mask tells how many bits to pass over. The
-// test in the loop is for speed: it never says yes, and tells the compiler that the record fits, so that storing it needs no further test.
+// The lines of the bits that are set in a mask, from the lowest up, stored as records. What is left of the mask tells how many bits to pass over, and when
+// to stop: a `for` over the 36 bits would look at those that are not set too. The test in the loop is for speed: it never says yes, and tells the compiler
+// that the record fits, so that storing it needs no further test.
 fn put_by_mask(lines: &mut [u8], block: &[u8], start: usize, mask: u64)
     requires { Room lines.old block.now start mask }
     ensures { lines.new ≡ sets lines.old 0 (joined (record_in block.now start mask) 36) }
