@@ -55,15 +55,15 @@ next_line mask n j h e q = rw (← q) (count_rises (bit_on mask) n 36 h e)
 -- ---- what can be read
 
 module _ (b : List ℕ) (m : ℕ) where
-  pub bad_opening : good_opening b ≡ false → false ≡ readable b m
+  pub bad_opening : good_opening b ≡ false → readable b m ≡ false
   unfolding readable
   bad_opening e = rw e
 
-  pub other_length : good_opening b ≡ true → (length b ≡ start_in b + 43 * count_in (mask_in b) 36 → ⊥) → false ≡ readable b m
+  pub other_length : good_opening b ≡ true → (length b ≡ start_in b + 43 * count_in (mask_in b) 36 → ⊥) → readable b m ≡ false
   unfolding readable
   other_length e d = rw (e, ne_eqb (length b) (start_in b + 43 * count_in (mask_in b) 36) d)
 
-  pub other_room : good_opening b ≡ true → length b ≡ start_in b + 43 * count_in (mask_in b) 36 → (m ≡ 64 * count_in (mask_in b) 36 → ⊥) → false ≡ readable b m
+  pub other_room : good_opening b ≡ true → length b ≡ start_in b + 43 * count_in (mask_in b) 36 → (m ≡ 64 * count_in (mask_in b) 36 → ⊥) → readable b m ≡ false
   unfolding readable
   other_room e f d = rw (e, eq-eqb (length b) (start_in b + 43 * count_in (mask_in b) 36) f, ne_eqb m (64 * count_in (mask_in b) 36) d)
 

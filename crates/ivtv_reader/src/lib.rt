@@ -1,7 +1,7 @@
 // A block read. All of it is looked at before anything is written.
 #![tactic(auto)]
 
-ghost use Rattle.std.specs.Prelude.{◌≡◌, ◌+◌, ◌*◌, ◌-◌, ◌/◌, ◌≤◌, ◌<◌, length};
+ghost use Rattle.std.specs.Prelude.{◌≡◌, ◌+◌, ◌*◌, ◌-◌, ◌/◌, ◌≤◌, ◌<◌, true, false, length, MatchOption};
 ghost use Rattle.std.proofs.lemmas.List.Edits.{sets};
 ghost use Rattle.ivtv_rules.specs.Block.{joined};
 ghost use Rattle.ivtv_rules.specs.Reading.{opens, mask_in, start_in, good_opening, count_in, good_body, readable, unpacked};
@@ -23,28 +23,29 @@ fn opens(block: &[u8], letters: &[u8]) -> bool
     letters == &block[..4]
 }
 
-// The mask of a block.
-fn mask_in(block: &[u8]) -> u64
-    ensures { result ≡ mask_in block.now }
+// Where the lines of a block start, and the mask that names them.
+#[derive(Clone, Copy)]
+struct Opening {
+    start: usize,
+    mask: u64,
+}
+
+// The opening of a block, if it is a good one.
+fn read_opening(block: &[u8]) -> Option<Opening>
+    ensures { MatchOption result (good_opening block.now ≡ false) (λ o. (good_opening block.now ≡ true) × (o.start ≡ start_in block.now) × (o.mask ≡ mask_in block.now)) }
 {
     if opens(block, b"ITV0") {
-        return ALL;
+        return Some(Opening {
+            start: 4,
+            mask: ALL,
+        });
     }
-    (wire_read::word_at(block, 4) as u64) + 4294967296 * (wire_read::word_at(block, 8) as u64)
-}
-
-// Where its lines start.
-fn start_in(block: &[u8]) -> usize
-    ensures { result ≡ start_in block.now }
-{
-    if opens(block, b"ITV0") { 4 } else { 12 }
-}
-
-// Whether its opening is a good one.
-fn good_opening(block: &[u8]) -> bool
-    ensures { result ≡ good_opening block.now }
-{
-    opens(block, b"ITV0") | (opens(block, b"itv0") & (mask_in(block) < ALL))
+    let mask = (wire_read::word_at(block, 4) as u64)
+        + 4294967296 * (wire_read::word_at(block, 8) as u64);
+    if opens(block, b"itv0") & (mask < ALL) {
+        return Some(Opening { start: 12, mask });
+    }
+    None
 }
 
 // How many lines a mask names.
@@ -68,22 +69,22 @@ fn good_body(block: &[u8], start: usize) -> bool
     true
 }
 
-// Whether a block can be read into so many bytes.
-fn plan(block: &[u8], room: usize) -> bool
-    ensures { result ≡ readable block.now room }
+// The opening of a block that can be read into so many bytes.
+fn plan(block: &[u8], room: usize) -> Option<Opening>
+    ensures { MatchOption result (readable block.now room ≡ false) (λ o. (readable block.now room ≡ true) × (o.start ≡ start_in block.now) × (o.mask ≡ mask_in block.now)) }
 {
-    let start = start_in(block);
-    let n = count_in(mask_in(block));
-    if !good_opening(block) {
-        return false;
-    }
+    let Opening { start, mask } = read_opening(block)?;
+    let n = count_in(mask);
     if block.len() != start + 43 * n {
-        return false;
+        return None;
     }
     if room != 64 * n {
-        return false;
+        return None;
     }
-    good_body(block, start)
+    if !good_body(block, start) {
+        return None;
+    }
+    Some(Opening { start, mask })
 }
 
 // The lines of the bits that are set in a mask, from the lowest up, stored as records. What is left of the mask tells how many bits to pass over, and when
@@ -115,9 +116,9 @@ fn put_by_mask(lines: &mut [u8], block: &[u8], start: usize, mask: u64)
 pub fn read(block: &[u8], lines: &mut [u8]) -> bool
     ensures { (result ≡ readable block.now (length lines.old)) × (lines.new ≡ unpacked block.now lines.old) }
 {
-    if !plan(block, lines.len()) {
+    let Some(Opening { start, mask }) = plan(block, lines.len()) else {
         return false;
-    }
-    put_by_mask(lines, block, start_in(block), mask_in(block));
+    };
+    put_by_mask(lines, block, start, mask);
     true
 }
