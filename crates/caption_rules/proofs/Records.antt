@@ -8,7 +8,7 @@ use borrow.Author.Tests.{eqb-true, eqb-false, lt-ltb}
 use lib.Dec.{eqb}
 use lib.ListN.{length, get_or, take, drop, set, replicate, get_or-replicate}
 use lib.ListN.{length-drop, length-append}
-use lib.Seq.{drop-drop, take-append_seam, drop-append_seam, get_or-set_same, get_or-set_other}
+use lib.Seq.{drop-drop, take_at, drop_at, get_or-set_same, get_or-set_other}
 use Rattle.wire_read.specs.Words.{word_at}
 use Rattle.wire_read.proofs.Words.{word_part}
 use Rattle.sheet_rules.specs.Folds.{any_below}
@@ -33,8 +33,8 @@ record_at f i = take 64 (drop (64 * i) f)
 pub next_record : (f r t : List ℕ) (i : ℕ) → drop (64 * i) f ≡ r ++ t → length r ≡ 64 → (r ≡ record_at f i) × (drop (64 * (i + 1)) f ≡ t) × (64 * (i + 1) ≤ length f)
 next_record f r t i e l =
     let z : 64 * (i + 1) ≡ 64 * i + 64 = omega arith in (
-      sym (ap (take 64) e ∙ ap (λ (n : ℕ). take n (r ++ t)) (sym l) ∙ take-append_seam r t),
-      ap (λ (n : ℕ). drop n f) z ∙ sym (drop-drop 64 (64 * i) f) ∙ ap (drop 64) e ∙ ap (λ (n : ℕ). drop n (r ++ t)) (sym l) ∙ drop-append_seam r t,
+      sym (ap (take 64) e ∙ take_at r t 64 l),
+      ap (λ (n : ℕ). drop n f) z ∙ sym (drop-drop 64 (64 * i) f) ∙ ap (drop 64) e ∙ drop_at r t 64 l,
       omega (arith, length-drop (64 * i) f, ap length e, length-append r t, l),
     )
 

@@ -1,11 +1,14 @@
 // One line of the embedded packing: a record of 64 bytes as 43 bytes of a block, and back.
 #![tactic(auto)]
 
-ghost use Rattle.std.specs.Prelude.{◌≡◌, length, get_or, take, drop, ◌+◌, ◌-◌, ◌≤◌, eqb};
+ghost use Rattle.std.specs.Prelude.{◌≡◌, length, get_or, take, drop, ◌+◌, ◌-◌, ◌<◌, ◌≤◌, eqb, MatchOption};
 ghost use Rattle.std.proofs.lemmas.List.Edits.{sets};
 ghost use Rattle.sheet_rules.specs.Folds.{all_below};
 ghost use Rattle.ivtv_rules.specs.Services.{identifier_of, service_of, payload_of};
 ghost use Rattle.ivtv_rules.specs.Lines.{bit_of, record_bit, line_of, record_of, good_line};
+
+// The services are numbers here and no enum: put_line and put_record store what they are lent, known or not, and promise a 0 for what is none (`line_of` and
+// `record_of`); an enum would bring two matches more, and a 0 for its None again.
 
 // The identifier of a service; 0 where the number is none.
 fn identifier(service: u32) -> u8
@@ -46,23 +49,23 @@ fn payload(identifier: u8) -> usize
     }
 }
 
-// The mask bit of a line, 36 where it has none.
-fn bit(field: u32, line: u32) -> usize
-    ensures { result ≡ bit_of field line }
+// The mask bit of a line, if it has one.
+fn bit(field: u32, line: u32) -> Option<usize>
+    ensures { MatchOption result (bit_of field line ≡ 36) (λ k. (k < 36) × (k ≡ bit_of field line)) }
 {
     if (field < 2) & ((6 <= line) & (line <= 23)) {
-        (18 * field + line - 6) as usize
+        Some((18 * field + line - 6) as usize)
     } else {
-        36
+        None
     }
 }
 
-// The mask bit of the line that a record names, 36 where that or its service is none.
-pub fn record_bit(sliced: &[u8]) -> usize
-    ensures { result ≡ record_bit sliced.now }
+// The mask bit of the line that a record names, if that has one and the service is known.
+pub fn record_bit(sliced: &[u8]) -> Option<usize>
+    ensures { MatchOption result (record_bit sliced.now ≡ 36) (λ k. (k < 36) × (k ≡ record_bit sliced.now)) }
 {
     if identifier(wire_read::word_at(sliced, 0)) == 0 {
-        return 36;
+        return None;
     }
     bit(wire_read::word_at(sliced, 4), wire_read::word_at(sliced, 8))
 }
@@ -119,16 +122,14 @@ pub fn put_record(lines: &mut [u8], at: usize, k: u32, line: &[u8])
     wire_copy::put_part(lines, at, &sliced, 0, 64);
 }
 
-// Whether each byte of a line that lies beyond a payload is zero.
+// Whether each byte of a line that lies beyond a payload is zero. The loop has no way out before its end, for speed: so the compiler looks at many at once.
 fn zero_from(line: &[u8], used: usize) -> bool
     requires { (43 ≤ length line.now) × (used ≤ 42) }
     ensures { result ≡ all_below (42 - used) (λ j. eqb (get_or line.now (1 + used + j) 0) 0) }
 {
     let mut clean = true;
-    let mut j: usize = 0;
-    while j < 42 - used {
-        clean = clean & (line[1 + used + j] == 0);
-        j += 1;
+    for byte in &line[1 + used..43] {
+        clean &= *byte == 0;
     }
     clean
 }

@@ -1,11 +1,12 @@
 -- How a block opens. Assumes nothing.
-use mathlib.Core.Path.{◌≡◌, refl}
+use mathlib.Core.Path.{◌≡◌, refl, ap}
 use mathlib.Core.Bool.{Bool, true, false, cond, ◌&&◌}
 use mathlib.Core.List.{List, [], ◌∷◌}
 use Prim.Native.Nat.{ℕ, ◌≤◌, ◌<◌}
 use native.Mathlib.Omega.{arith}
 use lib.Dec.{eqb}
-use lib.ListN.{length, get_or, take, length-take}
+use lib.Pointwise.{pointwise}
+use lib.ListN.{length, take, length-take}
 use Rattle.ivtv_rules.specs.Block.{ITV0}
 use Rattle.ivtv_rules.specs.Reading.{same, opens, start_in}
 
@@ -24,27 +25,13 @@ shorter (x ∷ a) (y ∷ b) h = and_false (eqb x y) (same a b) (shorter a b (ome
 pub too_short : (m b : List ℕ) → length m ≡ 4 → length b < 4 → false ≡ opens m b
 too_short m b e h = shorter m (take 4 b) (omega (arith, e, length-take 4 b))
 
-and_true : (a b c d : Bool) → (a && (b && (c && d))) ≡ (a && (b && (c && (d && true))))
-and_true true true true true = refl
-and_true true true true false = refl
-and_true true true false d = refl
-and_true true false c d = refl
-and_true false b c d = refl
-
 -- and against as many
-pub letter_by_letter : (m b : List ℕ) → length m ≡ 4 → 4 ≤ length b
-    → (eqb (get_or m 0 0) (get_or b 0 0) && (eqb (get_or m 1 0) (get_or b 1 0) && (eqb (get_or m 2 0) (get_or b 2 0) && eqb (get_or m 3 0) (get_or b 3 0)))) ≡ opens m b
+pub letter_by_letter : (a b : List ℕ) → pointwise eqb a b ≡ same a b
 unfolding same
-letter_by_letter (p ∷ q ∷ r ∷ s ∷ []) (w ∷ x ∷ y ∷ z ∷ b) e h = and_true (eqb p w) (eqb q x) (eqb r y) (eqb s z)
-letter_by_letter [] b e h = absurd (omega arith)
-letter_by_letter (p ∷ []) b e h = absurd (omega arith)
-letter_by_letter (p ∷ q ∷ []) b e h = absurd (omega arith)
-letter_by_letter (p ∷ q ∷ r ∷ []) b e h = absurd (omega arith)
-letter_by_letter (p ∷ q ∷ r ∷ s ∷ t ∷ m) b e h = absurd (omega arith)
-letter_by_letter (p ∷ q ∷ r ∷ s ∷ []) [] e h = absurd (omega arith)
-letter_by_letter (p ∷ q ∷ r ∷ s ∷ []) (w ∷ []) e h = absurd (omega arith)
-letter_by_letter (p ∷ q ∷ r ∷ s ∷ []) (w ∷ x ∷ []) e h = absurd (omega arith)
-letter_by_letter (p ∷ q ∷ r ∷ s ∷ []) (w ∷ x ∷ y ∷ []) e h = absurd (omega arith)
+letter_by_letter [] [] = refl
+letter_by_letter [] (y ∷ b) = refl
+letter_by_letter (x ∷ a) [] = refl
+letter_by_letter (x ∷ a) (y ∷ b) = ap (λ (t : Bool). eqb x y && t) (letter_by_letter a b)
 
 -- the lines start at 12 at most
 pub start_most : (b : List ℕ) → start_in b ≤ 12

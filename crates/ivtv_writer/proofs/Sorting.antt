@@ -63,13 +63,13 @@ module _ (s places : List ℕ) (i k : ℕ) (e : places ≡ tab (naming s i) 36) 
       ∙ sym (mask_joined 36 (named s i) (named s (i + 1)) k h u v (λ j l d. rw (naming_more s i j, ← b, ne_eqb k j (λ q. d (sym q)))))
 
   -- a record without a line, or with one that another named, is not good; any other is
-  pub no_line : 36 ≤ k → (n : ℕ) → i < n → false ≡ good_lines s n
-  no_line h n l = sym (good_not s n i l (rw (← b, le-ltb k 36 h)))
+  pub no_line : 36 ≤ k → (n : ℕ) → i < n → good_lines s n ≡ false
+  no_line h n l = good_not s n i l (rw (← b, le-ltb k 36 h))
 
-  pub named_before : k < 36 → (get_or places k 0 ≡ 0 → ⊥) → (n : ℕ) → i < n → false ≡ good_lines s n
+  pub named_before : k < 36 → (get_or places k 0 ≡ 0 → ⊥) → (n : ℕ) → i < n → good_lines s n ≡ false
   named_before h d n l =
       let z : eqb (naming s i (bit_at s i)) 0 ≡ false = ne_eqb (naming s i (bit_at s i)) 0 (λ q. d (kept_at h ∙ q)) in
-      sym (good_not s n i l (rw (z, ← b, lt-ltb k 36 h)))
+      good_not s n i l (rw (z, ← b, lt-ltb k 36 h))
 
   pub new_line : k < 36 → get_or places k 0 ≡ 0 → good_lines s i ≡ true → good_lines s (i + 1) ≡ true
   new_line h d g =
@@ -78,21 +78,21 @@ module _ (s places : List ℕ) (i k : ℕ) (e : places ≡ tab (naming s i) 36) 
 
 -- ---- what can be packed
 
-second_fails : (a b c : Bool) → b ≡ false → false ≡ (a && b && c)
+second_fails : (a b c : Bool) → b ≡ false → (a && b && c) ≡ false
 second_fails true b c e = rw e
 second_fails false b c e = refl
 
-third_fails : (a b c : Bool) → c ≡ false → false ≡ (a && b && c)
-third_fails true true c e = sym e
+third_fails : (a b c : Bool) → c ≡ false → (a && b && c) ≡ false
+third_fails true true c e = e
 third_fails true false c e = refl
 third_fails false b c e = refl
 
 module _ (s : List ℕ) (m : ℕ) where
-  pub part_left : (length s % 64 ≡ 0 → ⊥) → false ≡ packable s m
+  pub part_left : (length s % 64 ≡ 0 → ⊥) → packable s m ≡ false
   unfolding packable
   part_left d = rw (ne_eqb (length s % 64) 0 d)
 
-  pub too_many : 36 < length s / 64 → false ≡ packable s m
+  pub too_many : 36 < length s / 64 → packable s m ≡ false
   unfolding packable
   too_many h = second_fails (eqb (length s % 64) 0) (good_lines s (length s / 64)) (eqb m (block_length (length s / 64))) (by (good_lines s (length s / 64)) refl)
     where
@@ -100,7 +100,7 @@ module _ (s : List ℕ) (m : ℕ) where
       by true g = absurd (omega (arith, good_most s (length s / 64) g))
       by false g = g
 
-  pub other_length : (m ≡ block_length (length s / 64) → ⊥) → false ≡ packable s m
+  pub other_length : (m ≡ block_length (length s / 64) → ⊥) → packable s m ≡ false
   unfolding packable
   other_length d = third_fails (eqb (length s % 64) 0) (good_lines s (length s / 64)) (eqb m (block_length (length s / 64))) (ne_eqb m (block_length (length s / 64)) d)
 

@@ -1,77 +1,56 @@
 // A block written. Each record is looked at once, and its number kept at the bit of its line; then the lines are written by their bits.
 #![tactic(auto)]
 
-ghost use Rattle.std.specs.Prelude.{◌≡◌, true, false, cond, ◌+◌, ◌*◌, ◌/◌, ◌≤◌, ◌<◌, eqb, length};
+ghost use Rattle.std.specs.Prelude.{◌≡◌, true, false, cond, ◌+◌, ◌*◌, ◌/◌, ◌≤◌, ◌<◌, eqb, length, MatchOption};
 ghost use Rattle.std.proofs.lemmas.List.Edits.{sets};
 ghost use Rattle.ivtv_rules.specs.Block.{joined, opening_of};
 ghost use Rattle.ivtv_writer.specs.Sorting.{SortedBy, kept_line, Room};
 ghost use Rattle.ivtv_rules.specs.Writing.{good_lines, line_for, packable, packed};
 
-// For each bit the number of the record that names its line, counted from 1, or 0.
+// For each bit the number of the record that names its line, counted from 1, or 0, as `naming` of ivtv_rules has it. An Option would say once more what the
+// mask says of each bit.
 type Places = [u8; 36];
 
-// Whether all records are good; then the mask of the lines that they name, and where each record is.
+// The mask of the lines that records name, and where each record is.
 #[derive(Clone, Copy)]
 struct Sorted {
-    good: bool,
     mask: u64,
     places: Places,
 }
 
-// Records that cannot be packed.
-fn bad(places: Places) -> Sorted
-    ensures { result.good ≡ false }
-{
-    Sorted {
-        good: false,
-        mask: 0,
-        places,
-    }
-}
-
-// The first n records, sorted by their bits.
-fn sort(lines: &[u8], n: usize) -> Sorted
+// The first n records, sorted by their bits, if all of them are good.
+fn sort(lines: &[u8], n: usize) -> Option<Sorted>
     requires { (n ≤ 36) × (64 * n ≤ length lines.now) }
-    ensures { (result.good ≡ good_lines lines.now n) × (result.good ≡ true → SortedBy lines.now n result.mask result.places) }
+    ensures { MatchOption result (good_lines lines.now n ≡ false) (λ s. (good_lines lines.now n ≡ true) × SortedBy lines.now n s.mask s.places) }
 {
     let mut places: Places = [0; 36];
     let mut mask: u64 = 0;
-    let mut i: usize = 0;
-    while i < n {
+    for i in 0..n {
         let at = 64 * i;
         let end = at + 64;
-        let k = ivtv_lines::record_bit(&lines[at..end]);
-        if 36 <= k {
-            return bad(places);
-        }
+        let k = ivtv_lines::record_bit(&lines[at..end])?;
         if places[k] != 0 {
-            return bad(places);
+            return None;
         }
-        i += 1;
-        places[k] = i as u8;
+        places[k] = (i + 1) as u8;
         mask += 1u64 << k;
     }
-    Sorted {
-        good: true,
-        mask,
-        places,
-    }
+    Some(Sorted { mask, places })
 }
 
 // The records sorted, if they can be packed into so many bytes. More than 36 are never good: some line would come twice.
-fn plan(lines: &[u8], room: usize) -> Sorted
-    ensures { (result.good ≡ packable lines.now room) × (result.good ≡ true → SortedBy lines.now (length lines.now / 64) result.mask result.places) }
+fn plan(lines: &[u8], room: usize) -> Option<Sorted>
+    ensures { MatchOption result (packable lines.now room ≡ false) (λ s. (packable lines.now room ≡ true) × SortedBy lines.now (length lines.now / 64) s.mask s.places) }
 {
     let n = lines.len() / 64;
-    let places: Places = [0; 36];
     if lines.len() % 64 != 0 {
-        return bad(places);
+        return None;
     }
     if 36 < n {
-        return bad(places);
+        return None;
     }
     if room != ivtv_rules::block_length(n) {
-        return bad(places);
+        return None;
     }
     sort(lines, n)
 }
@@ -114,7 +93,8 @@ fn put_named(block: &mut [u8], at: usize, lines: &[u8], p: u8) -> usize
     at + 43
 }
 
-// The lines of the bits that are set in a mask, from the lowest up, stored from a place on. What is left of the mask tells how many bits to pass over.
+// The lines of the bits that are set in a mask, from the lowest up, stored from a place on. What is left of the mask tells how many bits to pass over, and
+// when to stop: a `for` over the 36 bits would look at those that are not set too.
 fn put_lines(block: &mut [u8], start: usize, lines: &[u8], places: &Places, mask: u64)
     requires { Room block.old start lines.now places.now mask }
     ensures { block.new ≡ sets block.old start (joined (kept_line lines.now mask places.now) 36) }
@@ -134,10 +114,9 @@ fn put_lines(block: &mut [u8], start: usize, lines: &[u8], places: &Places, mask
 pub fn write(lines: &[u8], block: &mut [u8]) -> bool
     ensures { (result ≡ packable lines.now (length block.old)) × (block.new ≡ packed lines.now block.old) }
 {
-    let sorted = plan(lines, block.len());
-    if !sorted.good {
+    let Some(sorted) = plan(lines, block.len()) else {
         return false;
-    }
+    };
     let places = sorted.places;
     let n = lines.len() / 64;
     put_opening(block, n, sorted.mask);

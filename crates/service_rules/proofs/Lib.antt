@@ -2,4 +2,3 @@ pub mod Counts
 pub mod Members
 pub mod Laws
 pub mod Ranks
-pub mod Made

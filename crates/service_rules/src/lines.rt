@@ -23,12 +23,16 @@ fn asked_at(set: u16, line: u16) -> u16
     if set == 0 { line } else { set }
 }
 
-// The lines that answer a set of services, or where it is empty the sets asked for on each line.
+// The lines that answer a set of services, or where it is empty the sets asked for on each line. A `for`, for speed: `from_fn` would copy the lines twice.
 pub fn negotiate(set: u16, asked: &Lines) -> Lines
     ensures { result ≡ negotiated_lines set asked.now }
 {
     let offered = offered_lines();
-    std::array::from_fn(|k| sets::common(asked_at(set, asked[k]), offered[k]))
+    let mut lines: Lines = [0; 48];
+    for k in 0..48 {
+        lines[k] = sets::common(asked_at(set, asked[k]), offered[k]);
+    }
+    lines
 }
 
 // Whether a service is on one of the lines. Each is looked at, for speed: with no way out of the loop the compiler looks at many at once.

@@ -2,6 +2,7 @@
 use mathlib.Core.Path.{◌≡◌}
 use mathlib.Core.Bool.{true, ◌&&◌}
 use Prim.Native.Nat.{ℕ, ◌≤◌, ◌<◌}
+use native.Mathlib.Omega.{arith}
 use lib.Dec.{leb, ltb}
 use borrow.Author.Tests.{ltb-true, leb-true}
 use Rattle.sheet_rules.proofs.Truth.{both}
@@ -17,7 +18,7 @@ inside f l e =
 
 pub returns-then-field-line : goal.returns-then-field-line
 unfolding bit_of
-returns-then-field-line c = rw c.if-field-line.true
+returns-then-field-line c = let a = c.args in (omega (arith, inside a.field a.line c.if-field-line.true), rw c.if-field-line.true)
 
 pub returns-else-field-line : goal.returns-else-field-line
 unfolding bit_of

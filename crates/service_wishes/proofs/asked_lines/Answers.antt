@@ -1,7 +1,7 @@
 -- What is called for each line. Assumes nothing.
 use Prim.Native.Nat.{◌+◌, ◌*◌}
 use borrow.Author.Rules.{rules}
-use Rattle.service_rules.proofs.Made.{made_table}
+use Rattle.service_wishes.proofs.Made.{made_table}
 use Rattle.service_replies.specs.Halves.{half_at}
 use Rattle.service_wishes.proofs.asked_lines.Goals as goal
 

@@ -1,6 +1,5 @@
 -- Bytes are below 256, so what is left of the word is its lower half. Assumes nothing.
 use borrow.Author.Rules.{rules}
-use Prim.Native.Nat.{◌+◌}
 use Rattle.service_replies.proofs.Halves.{low_half}
 use Rattle.service_wishes.proofs.half_at.Goals as goal
 
