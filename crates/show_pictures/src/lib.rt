@@ -9,23 +9,19 @@ fn byte(picture: usize, i: usize) -> u8 {
 
 // The space is filled with the bytes of the picture.
 pub fn fill(space: &mut [u8], picture: u32) {
-    for i in 0..space.len() {
-        space[i] = byte(picture as usize, i);
+    for (i, b) in space.iter_mut().enumerate() {
+        *b = byte(picture as usize, i);
     }
 }
 
 // Whether memory has so many bytes of that picture, from its first on, at a place.
 pub fn stands_at(memory: &[u8], at: usize, used: usize, picture: u32) -> bool {
     let part = wire_read::part(memory, at, used);
-    if part.len() != used {
-        return false;
-    }
-    for i in 0..part.len() {
-        if part[i] != byte(picture as usize, i) {
-            return false;
-        }
-    }
-    true
+    part.len() == used
+        && part
+            .iter()
+            .enumerate()
+            .all(|(i, b)| *b == byte(picture as usize, i))
 }
 
 // Every word of a space tells its own place, up to the greatest frame of the bench.

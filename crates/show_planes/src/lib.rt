@@ -14,15 +14,10 @@ fn one(out: &mut impl Write, alignment: u32, frame: &[u8], k: u32) -> io::Result
     };
     let mut number = 0u32;
     let p = plane_rules::plane(f, alignment, frame, k, &mut number);
-    let numbers = [
-        k,
-        (frame.len() % 4294967296) as u32,
-        number,
-        wire_read::word_at(p, 4),
-        wire_read::word_at(p, 0),
-        (p.len() % 4294967296) as u32,
-    ];
-    show_lines::line(out, b"plane %d of %d: %d, %cfrom %d, length %d\n", &numbers)
+    write!(out, "plane {k} of {}: {number}, ", frame.len())?;
+    show_text::name(out, wire_read::part(p, 4, 4))?;
+    let start = wire_read::word_at(p, 0);
+    writeln!(out, "from {start}, length {}", p.len())
 }
 
 // Y, Cb and Cr, each with a space after it.
@@ -35,10 +30,9 @@ fn named(frame: &mut [u8; 107520]) {
 
 // All of a frame, one that it has not, and one of a frame that is a byte short.
 fn all(out: &mut impl Write, alignment: u32, frame: &[u8; 107520]) -> io::Result<()> {
-    one(out, alignment, frame, 0)?;
-    one(out, alignment, frame, 1)?;
-    one(out, alignment, frame, 2)?;
-    one(out, alignment, frame, 3)?;
+    for k in 0..4 {
+        one(out, alignment, frame, k)?;
+    }
     one(out, alignment, wire_read::part(frame, 0, 107519), 0)
 }
 

@@ -11,22 +11,22 @@ const NEXT: u32 = 0x8000_0000;
 
 fn outcome(out: &mut impl Write, made: Result<Setting, Refusal>) -> io::Result<()> {
     match made {
-        Ok(Setting::Stored(_, v)) => show_lines::line(out, b"stored as %i", &[v]),
-        Ok(Setting::Pressed) => show_text::text(out, b"pressed"),
-        Err(why) => show_text::number(out, b"refused with ", u32::from(why)),
+        Ok(Setting::Stored(_, v)) => write!(out, "stored as {}", v.cast_signed()),
+        Ok(Setting::Pressed) => write!(out, "pressed"),
+        Err(why) => write!(out, "refused with {}", u32::from(why)),
     }
 }
 
 fn set(out: &mut impl Write, s: &[u8; 324], id: u32, value: u32) -> io::Result<()> {
-    show_lines::line(out, b"%x set to %i: ", &[id, value])?;
+    write!(out, "0x{id:08x} set to {}: ", value.cast_signed())?;
     outcome(out, control_value_rules::set(s, id, value))?;
-    show_text::letter(out, b'\n')
+    writeln!(out)
 }
 
 fn look_up(out: &mut impl Write, s: &[u8; 324], id: u32) -> io::Result<()> {
     let count = control_place_rules::count(s);
     let place = control_place_rules::queried(s, id).unwrap_or(count);
-    show_lines::line(out, b"%x looked up: place %d of %d\n", &[id, place, count])
+    writeln!(out, "0x{id:08x} looked up: place {place} of {count}")
 }
 
 // A value below zero is given as its 32 bits. What is not found has the place behind the last.

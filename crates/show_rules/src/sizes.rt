@@ -12,20 +12,18 @@ fn negotiate(
     height: u32,
 ) -> io::Result<()> {
     let asked = Format {
-        width: width,
-        height: height,
+        width,
+        height,
         code: format_rules::YUYV,
     };
     let f = negotiation_rules::negotiate(s, asked);
-    let numbers = [
-        width,
-        height,
-        f.width,
-        f.height,
-        format_rules::bytes_per_line(f, alignment),
-        format_rules::image_size(f, alignment),
-    ];
-    show_lines::line(out, b"YUYV %dx%d: %dx%d, line %d, size %d\n", &numbers)
+    let line = format_rules::bytes_per_line(f, alignment);
+    let size = format_rules::image_size(f, alignment);
+    writeln!(
+        out,
+        "YUYV {width}x{height}: {}x{}, line {line}, size {size}",
+        f.width, f.height
+    )
 }
 
 // Between two sizes, half way between two, and both ends of what can be asked for.
@@ -35,22 +33,20 @@ pub(crate) fn negotiated(out: &mut impl Write, s: &[u8; 324], alignment: u32) ->
     negotiate(out, s, alignment, 4294967295, 0)
 }
 
-fn told(out: &mut impl Write, text: &[u8], r: Rect) -> io::Result<()> {
-    let numbers = [
-        wire_signed::as_bits(r.left),
-        wire_signed::as_bits(r.top),
-        wire_signed::as_bits(r.width),
-        wire_signed::as_bits(r.height),
-    ];
-    show_lines::line(out, text, &numbers)
+fn told(out: &mut impl Write, what: &str, r: Rect) -> io::Result<()> {
+    writeln!(
+        out,
+        "{what}: left {}, top {}, width {}, height {}",
+        r.left, r.top, r.width, r.height
+    )
 }
 
 fn rect(left: i32, top: i32, width: i32, height: i32) -> Rect {
     Rect {
-        left: left,
-        top: top,
-        width: width,
-        height: height,
+        left,
+        top,
+        width,
+        height,
     }
 }
 
@@ -59,12 +55,12 @@ pub(crate) fn cropped(out: &mut impl Write, s: &[u8; 324]) -> io::Result<()> {
     let bounds = sheet_crop::crop_bounds(s);
     told(
         out,
-        b"crop left -5, width 608: left %i, top %i, width %i, height %i\n",
+        "crop left -5, width 608",
         crop_rules::clamp(bounds, rect(-5, 0, 608, 400)),
     )?;
     told(
         out,
-        b"crop top 31, height 300: left %i, top %i, width %i, height %i\n",
+        "crop top 31, height 300",
         crop_rules::clamp(bounds, rect(-8, 31, 640, 300)),
     )
 }
@@ -72,14 +68,10 @@ pub(crate) fn cropped(out: &mut impl Write, s: &[u8; 324]) -> io::Result<()> {
 // At opening, too: of a sheet with odd tops the crop is not the default.
 pub(crate) fn opened(out: &mut impl Write) -> io::Result<()> {
     let s = bench_sheet::odd_sheet();
+    told(out, "bounds top -7, default", sheet_crop::crop_default(&s))?;
     told(
         out,
-        b"bounds top -7, default: left %i, top %i, width %i, height %i\n",
-        sheet_crop::crop_default(&s),
-    )?;
-    told(
-        out,
-        b"bounds top -7, crop at opening: left %i, top %i, width %i, height %i\n",
+        "bounds top -7, crop at opening",
         crop_rules::opening_crop(&s),
     )
 }
