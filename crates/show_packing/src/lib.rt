@@ -92,7 +92,7 @@ pub fn read_back(
     n: u32,
 ) -> io::Result<()> {
     let number = match lines.get_mut(..(n % 37 * 64) as usize) {
-        Some(lent) => ivtv::unpack(wire_read::part(block, 0, length), lent),
+        Some(lent) => ioctl_table::number(ivtv::unpack(wire_read::part(block, 0, length), lent)),
         None => 0,
     };
     writeln!(out, "  unpack of {n}: {number}")?;

@@ -1,8 +1,7 @@
 -- The invariant: what is left to store, stored now, gives what the function ensures. The loop ends at the end of src, where
 -- nothing is left, or at the end of dst, where nothing more is stored. Assumes nothing.
-use mathlib.Core.Path.{◌≡◌, ap, ◌∙◌, sym}
+use mathlib.Core.Path.{ap, ◌∙◌, sym}
 use Prim.Native.Nat.{◌+◌}
-use native.Mathlib.Omega.{arith}
 use lib.ListN.{length, take, drop}
 use lib.Seq.{length-sets}
 use borrow.Author.Rules.{rules}
@@ -13,31 +12,19 @@ use Rattle.wire_copy.proofs.put_bytes.Goals as goal
 pub returns-then-dst-at : goal.returns-then-dst-at
 returns-then-dst-at c = let a = c.args in sym (sets_out a.src.now a.dst.now a.at (search rules))
 
--- behind a whole block
 pub loop-k-preserved : goal.loop-k-preserved
 loop-k-preserved c =
     let l = c.loop-k in
     let a = c.args in
-    let s = a.src.now in
     let e = c.copy_block.ensures in
-    let m : c.min-m.result ≡ 65536 = omega (arith, c.min-m.ensures) in (
-      ap length e ∙ length-sets l.dst (a.at + l.k) (take c.min-m.result (drop l.k s)) ∙ l.invariant.0,
-      rw (e, m) (rw m at (sym (block_turn l.dst s a.at l.k c.min-m.result (omega (arith, c.min-m.ensures, c.min-n.ensures))) ∙ l.invariant.1)),
+    let s = a.src.now in (
+      search rules,
+      ap length e ∙ length-sets l.dst (a.at + l.k) (take c.min-m.result (drop l.k s)) ∙ l.invariant.1,
+      rw e (sym (block_turn l.dst s a.at l.k c.min-m.result (search rules)) ∙ l.invariant.2),
     )
 
-pub returns-else-dst-at : goal.returns-else-dst-at
-returns-else-dst-at c =
+pub returns : goal.returns
+returns c =
     let l = c.loop-k in
     let a = c.args in
-    sym (sets_done l.dst a.src.now a.at l.k (search rules)) ∙ l.invariant.1
-
--- behind the last block
-pub returns-else-dst-at-2 : goal.returns-else-dst-at-2
-returns-else-dst-at-2 c =
-    let l = c.loop-k in
-    let a = c.args in
-    let s = a.src.now in
-    let e = c.copy_block.ensures in
-    let same : length c.copy_block.new.dst ≡ length a.dst.now = ap length e ∙ length-sets l.dst (a.at + l.k) (take c.min-m.result (drop l.k s)) ∙ l.invariant.0 in
-    sym (sets_done c.copy_block.new.dst s a.at (l.k + c.min-m.result) (omega (arith, same, c.min-m.ensures, c.min-n.ensures)))
-    ∙ rw e (sym (block_turn l.dst s a.at l.k c.min-m.result (omega (arith, c.min-m.ensures, c.min-n.ensures))) ∙ l.invariant.1)
+    sym (sets_done l.dst a.src.now a.at l.k (search rules)) ∙ l.invariant.2
