@@ -18,7 +18,8 @@ fn copy_block(dst: &mut [u8], at: usize, src: &[u8], from: usize, n: usize)
 }
 
 // The bytes of src stored in dst from a place on, block by block. How many fit is known before the loop. Not by one copy_from_slice: that misses what the array
-// is for, so that every caller gets a test for overlap and two loops beside the move (put_part of 32 bytes takes 138 instructions of program in place of 48). And by a while: a for over `(0..n).step_by(65536)` takes six instructions more in each of them.
+// is for, so that every caller gets a test for overlap and two loops beside the move (put_part of 32 bytes takes 138 instructions of program in place of 48).
+// And by a while: a for over `(0..n).step_by(65536)` takes six instructions more in every caller.
 pub fn put_bytes(dst: &mut [u8], at: usize, src: &[u8])
     ensures { dst.new ≡ sets dst.old at src.now }
 {
