@@ -11,6 +11,7 @@ ghost use Rattle.ivtv_rules.specs.Lines.{bit_of, record_bit, line_of, record_of,
 // `record_of`); an enum would bring two matches more, and a 0 for its None again.
 
 // The identifier of a service; 0 where the number is none.
+#[tactic(auto, unfolding(ivtv_rules::specs::Services::identifier_of))]
 fn identifier(service: u32) -> u8
     ensures { result ≡ identifier_of service }
 {
@@ -24,6 +25,7 @@ fn identifier(service: u32) -> u8
 }
 
 // The service of an identifier; 0 where none has it.
+#[tactic(auto, unfolding(ivtv_rules::specs::Services::service_of))]
 fn service(identifier: u8) -> u32
     ensures { result ≡ service_of identifier }
 {
@@ -37,6 +39,7 @@ fn service(identifier: u8) -> u32
 }
 
 // How many bytes of payload the service of an identifier has.
+#[tactic(auto, unfolding(ivtv_rules::specs::Services::payload_of))]
 fn payload(identifier: u8) -> usize
     ensures { result ≡ payload_of identifier }
 {
