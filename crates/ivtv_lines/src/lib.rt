@@ -53,6 +53,7 @@ fn payload(identifier: u8) -> usize
 }
 
 // The mask bit of a line, if it has one.
+#[tactic(auto, unfolding(ivtv_rules::specs::Lines::bit_of))]
 fn bit(field: u32, line: u32) -> Option<usize>
     ensures { MatchOption result (bit_of field line ≡ 36) (λ k. (k < 36) × (k ≡ bit_of field line)) }
 {
@@ -64,6 +65,7 @@ fn bit(field: u32, line: u32) -> Option<usize>
 }
 
 // The mask bit of the line that a record names, if that has one and the service is known.
+#[tactic(auto, unfolding(ivtv_rules::specs::Lines::record_bit))]
 pub fn record_bit(sliced: &[u8]) -> Option<usize>
     ensures { MatchOption result (record_bit sliced.now ≡ 36) (λ k. (k < 36) × (k ≡ record_bit sliced.now)) }
 {
