@@ -8,6 +8,7 @@ ghost use Rattle.ivtv_rules.specs.Reading.{unpack_number, unpacked};
 use ioctl_table::Refusal;
 
 // Records of 64 bytes, in any order, packed into a block of exactly their length: 0; or 22, and nothing written.
+#[tactic(auto, unfolding(ivtv_rules::specs::Writing::pack_number))]
 pub fn pack(lines: &[u8], block: &mut [u8]) -> u32
     ensures { (result ≡ pack_number lines.now (length block.old)) × (block.new ≡ packed lines.now block.old) }
 {
@@ -18,6 +19,7 @@ pub fn pack(lines: &[u8], block: &mut [u8]) -> u32
 }
 
 // A block read into records of 64 bytes, in the order of their bits, of exactly their length: 0; or 22, and nothing written.
+#[tactic(auto, unfolding(ivtv_rules::specs::Reading::unpack_number))]
 pub fn unpack(block: &[u8], lines: &mut [u8]) -> u32
     ensures { (result ≡ unpack_number block.now (length lines.old)) × (lines.new ≡ unpacked block.now lines.old) }
 {
