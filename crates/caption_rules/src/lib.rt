@@ -21,6 +21,7 @@ fn place(field: u32, line: u32) -> Option<usize>
 
 // Whether a number is the bit of a service, and the set has it. A match on the number itself: an enum of the services would bring a second match with the
 // same four numbers, and each division by a number known here is a test of one bit.
+#[tactic(auto, unfolding(wire_read::specs::Lists::any, service_rules::specs::Services::has))]
 fn carries(set: u16, id: u32) -> bool
     ensures { result ≡ (is_service id && has set id) }
 {
@@ -52,6 +53,7 @@ fn good_records(lines: &Lines, frame: &[u8]) -> bool
 }
 
 // Whether a frame is whole, by the lines that were negotiated.
+#[tactic(auto, unfolding(crate::specs::Caption::whole_caption))]
 pub fn whole_caption(lines: &Lines, frame: &[u8], time: Time) -> bool
     ensures { result ≡ whole_caption lines.now frame.now time }
 {

@@ -11,6 +11,7 @@ ghost use Rattle.ivtv_rules.specs.Lines.{bit_of, record_bit, line_of, record_of,
 // `record_of`); an enum would bring two matches more, and a 0 for its None again.
 
 // The identifier of a service; 0 where the number is none.
+#[tactic(auto, unfolding(ivtv_rules::specs::Services::identifier_of))]
 fn identifier(service: u32) -> u8
     ensures { result ≡ identifier_of service }
 {
@@ -24,6 +25,7 @@ fn identifier(service: u32) -> u8
 }
 
 // The service of an identifier; 0 where none has it.
+#[tactic(auto, unfolding(ivtv_rules::specs::Services::service_of))]
 fn service(identifier: u8) -> u32
     ensures { result ≡ service_of identifier }
 {
@@ -37,6 +39,7 @@ fn service(identifier: u8) -> u32
 }
 
 // How many bytes of payload the service of an identifier has.
+#[tactic(auto, unfolding(ivtv_rules::specs::Services::payload_of))]
 fn payload(identifier: u8) -> usize
     ensures { result ≡ payload_of identifier }
 {
@@ -50,6 +53,7 @@ fn payload(identifier: u8) -> usize
 }
 
 // The mask bit of a line, if it has one.
+#[tactic(auto, unfolding(ivtv_rules::specs::Lines::bit_of))]
 fn bit(field: u32, line: u32) -> Option<usize>
     ensures { MatchOption result (bit_of field line ≡ 36) (λ k. (k < 36) × (k ≡ bit_of field line)) }
 {
@@ -61,6 +65,7 @@ fn bit(field: u32, line: u32) -> Option<usize>
 }
 
 // The mask bit of the line that a record names, if that has one and the service is known.
+#[tactic(auto, unfolding(ivtv_rules::specs::Lines::record_bit))]
 pub fn record_bit(sliced: &[u8]) -> Option<usize>
     ensures { MatchOption result (record_bit sliced.now ≡ 36) (λ k. (k < 36) × (k ≡ record_bit sliced.now)) }
 {

@@ -31,6 +31,7 @@ struct Opening {
 }
 
 // The opening of a block, if it is a good one.
+#[tactic(auto, unfolding(ivtv_rules::specs::Reading::good_opening, ivtv_rules::specs::Reading::start_in, ivtv_rules::specs::Reading::mask_in))]
 fn read_opening(block: &[u8]) -> Option<Opening>
     ensures { MatchOption result (good_opening block.now ≡ false) (λ o. (good_opening block.now ≡ true) × (o.start ≡ start_in block.now) × (o.mask ≡ mask_in block.now)) }
 {

@@ -5,6 +5,7 @@ ghost use Rattle.std.specs.Prelude.{◌≡◌};
 ghost use Rattle.ivtv_rules.specs.Block.{block_length};
 
 // Bytes of a block of n lines, 0 where there is none of so many: no Option, since tg_vbi_block_length gives C this number as it is.
+#[tactic(auto, unfolding(crate::specs::Block::block_length))]
 pub fn block_length(n: usize) -> usize
     ensures { result ≡ block_length n }
 {

@@ -7,6 +7,7 @@ ghost use Rattle.service_replies.specs.Services.{services_reply, services_capabi
 use service_rules::Lines;
 
 // A number of 16 bits stored at a place.
+#[tactic(auto, unfolding(crate::specs::Halves::le16))]
 fn put_half(dst: &mut [u8], at: usize, h: u16)
     requires { at + 2 ≤ length dst.old }
     ensures { dst.new ≡ sets dst.old at (le16 h) }
@@ -27,6 +28,7 @@ fn put_lines(dst: &mut [u8], at: usize, lines: &[u16])
 }
 
 // G_FMT, S_FMT and TRY_FMT: the services of each line, their union, and the io size.
+#[tactic(auto, unfolding(crate::specs::Services::services_reply))]
 pub fn put_services(argument: &mut [u8], kind: u32, lines: &Lines)
     ensures { argument.new ≡ sets argument.old 0 (services_reply kind lines.now) }
 {
@@ -39,6 +41,7 @@ pub fn put_services(argument: &mut [u8], kind: u32, lines: &Lines)
 }
 
 // G_SLICED_VBI_CAP: all that the device offers.
+#[tactic(auto, unfolding(crate::specs::Services::services_capability_reply))]
 pub fn put_services_capability(argument: &mut [u8], kind: u32)
     ensures { argument.new ≡ sets argument.old 0 (services_capability_reply kind) }
 {

@@ -13,6 +13,7 @@ const CAPTION_525: u16 = 0x1000;
 const WSS_625: u16 = 0x4000;
 
 // Whether a set has a bit.
+#[tactic(auto, unfolding(crate::specs::Services::has))]
 pub(crate) fn has(set: u16, bit: u16) -> bool
     requires { 0 < bit }
     ensures { result ≡ has set bit }

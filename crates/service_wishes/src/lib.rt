@@ -22,6 +22,7 @@ fn asked_lines(argument: &[u8]) -> Lines
 }
 
 // The lines that answer what the argument of S_FMT or TRY_FMT asks for.
+#[tactic(auto, unfolding(service_replies::specs::Services::asked_services))]
 pub fn asked_services(argument: &[u8]) -> Lines
     ensures { result ≡ asked_services argument.now }
 {
