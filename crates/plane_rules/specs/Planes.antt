@@ -50,6 +50,10 @@ plane_refused f a n k = not (eqb n (image_size f a)) || leb (plane_count f.code)
 abbrev pub no_place : Refusal → Place
 no_place why = record { number = errno_of why; start = 0; length = 0 }
 
+-- so many bytes from a start on
+abbrev pub place_of : ℕ → ℕ → Place
+place_of s l = record { number = 0; start = s; length = l }
+
 -- where plane k of a frame of n bytes lies
 unfoldable pub plane_of : Format → ℕ → ℕ → ℕ → Place
 plane_of f a n k = cond (plane_refused f a n k) (no_place NoSuchPlane) (record { number = 0; start = plane_start f a k; length = plane_length f a k })

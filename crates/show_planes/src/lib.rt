@@ -12,8 +12,10 @@ fn one(out: &mut impl Write, alignment: u32, frame: &[u8], k: u32) -> io::Result
         height: 224,
         code: format_rules::YU12,
     };
-    let mut number = 0u32;
-    let p = plane_rules::plane(f, alignment, frame, k, &mut number);
+    let (p, number) = match plane_rules::plane(f, alignment, frame, k) {
+        Ok(p) => (p, 0),
+        Err(why) => (wire_read::part(frame, 0, 0), u32::from(why)),
+    };
     write!(out, "plane {k} of {}: {number}, ", frame.len())?;
     show_text::name(out, wire_read::part(p, 4, 4))?;
     let start = wire_read::word_at(p, 0);

@@ -1,4 +1,5 @@
 -- Each component by its case; a line times a height fits 32 bits. Assumes nothing.
+use mathlib.Core.Logic.{⊎_elim}
 use mathlib.Core.Path.{sym, ap, ap₂, ◌∙◌}
 use Prim.Native.Nat.{ℕ, ◌*◌, ◌/◌}
 use native.Mathlib.Omega.{arith}
@@ -10,16 +11,8 @@ pub overflow_mul-result : goal.overflow_mul-result
 overflow_mul-result c =
     record { fits = product_fits c.bytes_per_line-line.result c.image_height-height.result (omega (arith, c.bytes_per_line-line.ensures, line_fits c.args.f c.args.alignment)) (omega (arith, c.image_height-height.ensures, height_fits c.args.f)) }
 
-pub overflow_mul-result-in-Luma : goal.overflow_mul-result-in-Luma
-overflow_mul-result-in-Luma c =
-    record { fits = product_fits c.bytes_per_line-line.result c.image_height-height.result (omega (arith, c.bytes_per_line-line.ensures, line_fits c.args.f c.args.alignment)) (omega (arith, c.image_height-height.ensures, height_fits c.args.f)) }
-
 pub overflow_mul-result-in-Cb : goal.overflow_mul-result-in-Cb
 overflow_mul-result-in-Cb c =
-    record { fits = product_fits (c.bytes_per_line-line.result / 2) (c.image_height-height.result / 2) (omega (arith, c.bytes_per_line-line.ensures, line_fits c.args.f c.args.alignment)) (omega (arith, c.image_height-height.ensures, height_fits c.args.f)) }
-
-pub overflow_mul-result-in-Cr : goal.overflow_mul-result-in-Cr
-overflow_mul-result-in-Cr c =
     record { fits = product_fits (c.bytes_per_line-line.result / 2) (c.image_height-height.result / 2) (omega (arith, c.bytes_per_line-line.ensures, line_fits c.args.f c.args.alignment)) (omega (arith, c.image_height-height.ensures, height_fits c.args.f)) }
 
 pub overflow_mul-result-in-CbCr : goal.overflow_mul-result-in-CbCr
@@ -32,19 +25,15 @@ returns-in-Nothing c = ap (component_length _ _) (sym c.in-Nothing.is)
 
 pub returns-in-Packed : goal.returns-in-Packed
 unfolding component_length
-returns-in-Packed c = ap₂ (λ (l h : ℕ). l * h) c.bytes_per_line-line.ensures c.image_height-height.ensures ∙ ap (component_length _ _) (sym c.in-Packed.is)
-
-pub returns-in-Luma : goal.returns-in-Luma
-unfolding component_length
-returns-in-Luma c = ap₂ (λ (l h : ℕ). l * h) c.bytes_per_line-line.ensures c.image_height-height.ensures ∙ ap (component_length _ _) (sym c.in-Luma.is)
+returns-in-Packed c =
+    let e = ap₂ (λ (l h : ℕ). l * h) c.bytes_per_line-line.ensures c.image_height-height.ensures in
+    ⊎_elim (λ h. rw h e) (λ h. rw h e) c.in-Packed.is
 
 pub returns-in-Cb : goal.returns-in-Cb
 unfolding component_length
-returns-in-Cb c = ap₂ (λ (l h : ℕ). l / 2 * (h / 2)) c.bytes_per_line-line.ensures c.image_height-height.ensures ∙ ap (component_length _ _) (sym c.in-Cb.is)
-
-pub returns-in-Cr : goal.returns-in-Cr
-unfolding component_length
-returns-in-Cr c = ap₂ (λ (l h : ℕ). l / 2 * (h / 2)) c.bytes_per_line-line.ensures c.image_height-height.ensures ∙ ap (component_length _ _) (sym c.in-Cr.is)
+returns-in-Cb c =
+    let e = ap₂ (λ (l h : ℕ). l / 2 * (h / 2)) c.bytes_per_line-line.ensures c.image_height-height.ensures in
+    ⊎_elim (λ h. rw h e) (λ h. rw h e) c.in-Cb.is
 
 pub returns-in-CbCr : goal.returns-in-CbCr
 unfolding component_length

@@ -1,20 +1,21 @@
 -- The length of the list of planes. Assumes nothing.
-use borrow.Author.Tests.{eq-eqb, ne_eqb}
+use borrow.Author.Rules.{rules}
+use borrow.Author.Tests.{ne_eqb}
+use mathlib.Core.Logic.{⊎_elim}
+use Rattle.format_rules.specs.Code.{YU12, YV12, NV12}
 use Rattle.plane_rules.specs.Planes.{plane_count, planes_of}
 use Rattle.plane_rules.proofs.plane_count.Goals as goal
 
-pub returns-then-code-eq-YU12 : goal.returns-then-code-eq-YU12
+pub returns-in-842093913 : goal.returns-in-842093913
 unfolding plane_count planes_of
-returns-then-code-eq-YU12 c = rw (eq-eqb _ _ c.if-code-eq-YU12.true)
+returns-in-842093913 c = ⊎_elim (λ e. rw e) (λ e. rw e) c.in-842093913.is
 
-pub returns-then-code-eq-YV12 : goal.returns-then-code-eq-YV12
+pub returns-in-842094158 : goal.returns-in-842094158
 unfolding plane_count planes_of
-returns-then-code-eq-YV12 c = rw (ne_eqb _ _ c.if-code-eq-YU12.false, eq-eqb _ _ c.if-code-eq-YV12.true)
+returns-in-842094158 c = rw c.in-842094158.is
 
-pub returns-then-code-eq-NV12 : goal.returns-then-code-eq-NV12
+pub returns-in_default : goal.returns-in_default
 unfolding plane_count planes_of
-returns-then-code-eq-NV12 c = rw (ne_eqb _ _ c.if-code-eq-YU12.false, ne_eqb _ _ c.if-code-eq-YV12.false, eq-eqb _ _ c.if-code-eq-NV12.true)
-
-pub returns : goal.returns
-unfolding plane_count planes_of
-returns c = rw (ne_eqb _ _ c.if-code-eq-YU12.false, ne_eqb _ _ c.if-code-eq-YV12.false, ne_eqb _ _ c.if-code-eq-NV12.false)
+returns-in_default c =
+    let a = c.args.code in
+    rw (ne_eqb a YU12 (search rules), ne_eqb a YV12 (search rules), ne_eqb a NV12 (search rules))
