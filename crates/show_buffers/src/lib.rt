@@ -59,12 +59,10 @@ fn call(s: &mut Words, memory: &[u8], c: u8, size: u32, a: &mut [u8]) -> u8 {
         wire_store::put_word(a, 0, number);
         return b'N';
     }
-    if c == b'd' {
-        if !held(memory, a) {
-            return b'X';
-        }
+    if c == b'd' && !held(memory, a) {
+        return b'X';
     }
-    std::num::wrapping_sub_u8(c, 32)
+    c.to_ascii_uppercase()
 }
 
 // What became of the arrivals of the last run: five words, accepted, handed over, damaged, dropped, discarded. Of each count the lower 32 bits.
@@ -81,37 +79,38 @@ fn aged(s: &mut Words, n: u64) {
     s[stream_words::NEXT_NUMBER] = n % 4294967296;
 }
 
-// Another event, with the length that the memory has.
-fn other(s: &mut Words, length: u32, c: u8, a: &mut [u8]) -> u8 {
-    match c {
+// Another event, with the length that the memory has, and its answer.
+fn other(s: &mut Words, length: u32, c: u8, a: &mut [u8]) -> Option<u8> {
+    let answer = match c {
         b'\n' | b'k' => {
             *s = stream_run::fresh(length as u64);
-            0
+            return None;
         }
         b'a' => {
             aged(s, 4294967294);
-            0
+            return None;
         }
         b'e' => {
             aged(s, 9223372036854775805);
-            0
+            return None;
         }
         b'v' => (stream_verdict::verdict_number(stream_verdict::film_verdict(s)) % 4 + 53) as u8,
         b'h' => {
             record(s, a);
             b'H'
         }
-        _ => 0,
-    }
+        _ => return None,
+    };
+    Some(answer)
 }
 
-// The letter of the answer of an event is given back, and 0 where it has none.
-pub fn event(s: &mut Words, memory: &[u8], e: Event, a: &mut [u8]) -> u8 {
+// The letter of the answer of an event, where it has one.
+pub fn event(s: &mut Words, memory: &[u8], e: Event, a: &mut [u8]) -> Option<u8> {
     let c = e.letter;
     match c {
-        b'r' | b'b' | b'q' | b'd' | b's' | b't' | b'j' | b'y' | b'i' => call(
-            s, memory, c, e.size, a,
-        ),
+        b'r' | b'b' | b'q' | b'd' | b's' | b't' | b'j' | b'y' | b'i' => {
+            Some(call(s, memory, c, e.size, a))
+        }
         _ => other(s, e.length, c, a),
     }
 }

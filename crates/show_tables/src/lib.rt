@@ -2,6 +2,7 @@
 #![tactic(auto)]
 
 use show_events::{Captions, Memory};
+use show_lists::{Item, Reading};
 use std::io;
 use std::io::Write;
 
@@ -15,10 +16,9 @@ pub fn table(
     let none = [0u8; 16];
     let made = show_opening::open(&none);
     let mut d = made.device;
-    let mut e = show_lists::begun(true, 0, 0);
+    let mut reading = Reading::new();
     for b in lists {
-        e = show_lists::after(out, e, *b)?;
-        if 32 < e.letter {
+        if let Some(Item::Event(e)) = reading.after(out, *b)? {
             d = show_events::event(out, d, pictures, captions, e)?;
         }
     }
