@@ -5,6 +5,7 @@
 //   v the verdict, which answers with a digit from 5 on; h the record of the run, which answers H
 //   a line's end, and k with the memory's length, make the stream anew; a and e put a run to counts that no list could reach: 4,294,967,294
 //   arrivals, and 9,223,372,036,854,775,805, each accepted and handed over
+// Events and answers are the letters of lists and of tables: an enum of them would be a second list of letters before the matches here.
 // No contract here says more than that each function is safe and ends.
 #![tactic(auto)]
 
