@@ -109,6 +109,7 @@ fn called(
     Ok(())
 }
 
+// What becomes of an arrival, and a verdict, come as the numbers that C is given; their lines have digits for letters.
 pub fn answered(
     out: &mut impl Write,
     c: u8,

@@ -6,7 +6,8 @@ use show_lists::{Item, Reading};
 use std::io;
 use std::io::Write;
 
-// The lists of a table, one after the other. A list starts with an opening; before the first, the device is one that no sheet opened.
+// The lists of a table, one after the other. A list starts with an opening; before the first, the device is one that no sheet opened. The table is
+// bytes, and no &str: any bytes are taken, as of standard input.
 pub fn table(
     out: &mut impl Write,
     pictures: &mut Memory,
