@@ -116,7 +116,7 @@ pub fn plane_place(f: Format, alignment: u32, bytes: usize, k: u32) -> Place
             length,
         },
         Err(why) => Place {
-            number: ioctl_table::errno(why),
+            number: u32::from(why),
             start: 0,
             length: 0,
         },

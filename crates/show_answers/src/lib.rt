@@ -50,17 +50,11 @@ fn told(out: &mut impl Write, letter: u8, a: &[u8]) -> io::Result<()> {
 
 // The letter of the answer: of captions it is that of their format, and that of the load.
 fn letter(c: u8, a: &[u8]) -> u8 {
-    if c == b'g' {
-        if wire_read::word_at(a, 0) == 6 {
-            return b'F';
-        }
+    match c {
+        b'g' if wire_read::word_at(a, 0) == 6 => b'F',
+        b'd' if wire_read::word_at(a, 4) == 6 => b'L',
+        _ => c,
     }
-    if c == b'd' {
-        if wire_read::word_at(a, 4) == 6 {
-            return b'L';
-        }
-    }
-    c
 }
 
 // Whether the picture that is handed over stands in memory at the offset that the answer tells; it goes by the second that it tells.
@@ -71,27 +65,25 @@ fn picture(out: &mut impl Write, a: &[u8], memory: &[u8]) -> io::Result<()> {
         wire_read::word_at(a, 8) as usize,
         wire_read::word_at(a, 20),
     ) {
-        show_text::text(out, b"intact")
+        write!(out, "intact")
     } else {
-        show_text::text(out, b"SPOILT")
+        write!(out, "SPOILT")
     }
 }
 
 // The load reading of the captions that are handed over: the first two bytes that the first line carries.
 fn load(out: &mut impl Write, a: &[u8], memory: &[u8]) -> io::Result<()> {
     let line = wire_read::part(memory, wire_read::word_at(a, 52) as usize, 64);
-    show_text::long(out, (wire_read::word_at(line, 16) % 65536) as u64)
+    write!(out, "{}", wire_read::word_at(line, 16) % 65536)
 }
 
 // Whether a buffer that is handed in or over is told as mapped: only then are its flags said.
 fn mapped(c: u8, a: &[u8]) -> bool {
-    match c {
-        b'q' | b'd' => wire_read::word_at(a, 12) % 2 == 1,
-        _ => false,
-    }
+    matches!(c, b'q' | b'd') && wire_read::word_at(a, 12) % 2 == 1
 }
 
-// The number that came back, and the answer of an accepted call, with the memories of pictures and of captions.
+// The number that came back, and the answer of an accepted call, with the memories of pictures and of captions. These are two parameters as they
+// are in `show_events`, which says why.
 fn called(
     out: &mut impl Write,
     c: u8,
@@ -100,7 +92,7 @@ fn called(
     pictures: &[u8],
     captions: &[u8],
 ) -> io::Result<()> {
-    show_text::number(out, b": ", number)?;
+    write!(out, ": {number}")?;
     if number != 0 {
         return Ok(());
     }
@@ -117,6 +109,7 @@ fn called(
     Ok(())
 }
 
+// What becomes of an arrival, and a verdict, come as the numbers that C is given; their lines have digits for letters.
 pub fn answered(
     out: &mut impl Write,
     c: u8,
@@ -131,5 +124,5 @@ pub fn answered(
         b'v' => told(out, (number % 4 + 53) as u8, a)?,
         _ => called(out, c, number, a, pictures, captions)?,
     }
-    show_text::letter(out, b'\n')
+    writeln!(out)
 }

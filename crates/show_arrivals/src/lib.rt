@@ -7,8 +7,8 @@
 use arrival_replies::Told;
 use stream_words::{Time, Words};
 
-// An event on a stream: its letter and its number, which is the microseconds of an arrival; the size of a frame, the seconds on the clock, and
-// how much of the memory there is.
+// An event on a stream: its letter, which is that of the lists, and its number, which is the microseconds of an arrival; the size of a frame, the
+// seconds on the clock, and how much of the memory there is.
 #[derive(Clone, Copy)]
 pub struct Event {
     pub letter: u8,
@@ -18,53 +18,76 @@ pub struct Event {
     pub length: u32,
 }
 
-// Whether the letter is that of an arrival.
-pub fn arrival(c: u8) -> bool {
-    match c {
-        b'w' | b'u' | b'o' | b'm' | b'l' | b'p' | b'g' => true,
-        _ => false,
-    }
+// How a frame arrives. At a time that is none it arrives as a whole one does.
+#[derive(Clone, Copy)]
+pub enum Arrival {
+    Whole,
+    Short,
+    Long,
+    OtherMemory,
+    CalledShort,
+    CalledLong,
 }
 
-// How long the frame is.
-fn length(c: u8, size: u32) -> u32 {
-    match c {
-        b'u' | b'p' => std::num::wrapping_sub_u32(size, 1),
-        b'o' | b'g' => std::num::wrapping_add_u32(size, 1),
-        _ => size,
+impl Arrival {
+    // The arrival of this letter.
+    pub fn of(letter: u8) -> Option<Arrival> {
+        match letter {
+            b'w' | b'm' => Some(Arrival::Whole),
+            b'u' => Some(Arrival::Short),
+            b'o' => Some(Arrival::Long),
+            b'l' => Some(Arrival::OtherMemory),
+            b'p' => Some(Arrival::CalledShort),
+            b'g' => Some(Arrival::CalledLong),
+            _ => None,
+        }
     }
-}
 
-// Whether a frame is whole goes by the rule of pictures, or by word of the caller.
-fn whole(c: u8, bytes: u64, size: u32, time: Time) -> bool {
-    picture_rules::whole_picture(bytes, size, time) | (c == b'p') | (c == b'g')
+    // How long the frame is.
+    fn length(self, size: u32) -> u32 {
+        match self {
+            Arrival::Whole | Arrival::OtherMemory => size,
+            Arrival::Short | Arrival::CalledShort => size.wrapping_sub(1),
+            Arrival::Long | Arrival::CalledLong => size.wrapping_add(1),
+        }
+    }
+
+    // Whether a frame is whole goes by the rule of pictures, or by word of the caller.
+    fn whole(self, bytes: u64, size: u32, time: Time) -> bool {
+        matches!(self, Arrival::CalledShort | Arrival::CalledLong)
+            || picture_rules::whole_picture(bytes, size, time)
+    }
+
+    // How much of the memory is lent.
+    fn room(self, length: u32) -> usize {
+        match self {
+            Arrival::OtherMemory => 100,
+            _ => length as usize,
+        }
+    }
 }
 
 // What became of a frame is written as words, and the kind of that is given back as a digit.
-fn taken(s: &mut Words, memory: &mut [u8], frame: &[u8], e: Event, a: &mut [u8]) -> u8 {
+fn taken(
+    s: &mut Words,
+    memory: &mut [u8],
+    frame: &[u8],
+    kind: Arrival,
+    e: Event,
+    a: &mut [u8],
+) -> u8 {
     let time = stream_frames::time_of(e.clock, e.number);
-    let called = whole(e.letter, frame.len() as u64, e.size, time);
+    let called = kind.whole(frame.len() as u64, e.size, time);
     let told = Told::from(stream_arrival::arrive(s, memory, frame, called, e.size, time));
     wire_store::put_words(a, 0, &[told.number, told.buffer]);
     (told.kind % 5 + 48) as u8
 }
 
-// How much of the memory is lent.
-fn room(c: u8, length: u32) -> usize {
-    if c == b'l' { 100 } else { length as usize }
-}
-
-fn lent(memory: &mut [u8], n: usize) -> &mut [u8] {
-    if memory.len() < n {
-        return memory;
-    }
-    &mut memory[..n]
-}
-
 // A frame arrives. Its bytes go by its number.
-pub fn arrive(s: &mut Words, memory: &mut [u8], e: Event, a: &mut [u8]) -> u8 {
+pub fn arrive(s: &mut Words, memory: &mut [u8], kind: Arrival, e: Event, a: &mut [u8]) -> u8 {
     let mut space = [0u8; 8193];
     show_pictures::fill(&mut space, e.number);
-    let frame = wire_read::part(&space, 0, length(e.letter, e.size) as usize);
-    taken(s, lent(memory, room(e.letter, e.length)), frame, e, a)
+    let frame = wire_read::part(&space, 0, kind.length(e.size) as usize);
+    let n = kind.room(e.length).min(memory.len());
+    taken(s, &mut memory[..n], frame, kind, e, a)
 }

@@ -5,6 +5,7 @@
 //   v the verdict, which answers with a digit from 5 on; h the record of the run, which answers H
 //   a line's end, and k with the memory's length, make the stream anew; a and e put a run to counts that no list could reach: 4,294,967,294
 //   arrivals, and 9,223,372,036,854,775,805, each accepted and handed over
+// Events and answers are the letters of lists and of tables: an enum of them would be a second list of letters before the matches here.
 // No contract here says more than that each function is safe and ends.
 #![tactic(auto)]
 
@@ -62,12 +63,10 @@ fn call(s: &mut Words, memory: &[u8], c: u8, size: u32, a: &mut [u8]) -> u8 {
         wire_store::put_word(a, 0, number);
         return b'N';
     }
-    if c == b'd' {
-        if !held(memory, a) {
-            return b'X';
-        }
+    if c == b'd' && !held(memory, a) {
+        return b'X';
     }
-    std::num::wrapping_sub_u8(c, 32)
+    c.to_ascii_uppercase()
 }
 
 // What became of the arrivals of the last run: five words, accepted, handed over, damaged, dropped, discarded. Of each count the lower 32 bits.
@@ -84,37 +83,38 @@ fn aged(s: &mut Words, n: u64) {
     s[stream_words::NEXT_NUMBER] = n % 4294967296;
 }
 
-// Another event, with the length that the memory has.
-fn other(s: &mut Words, length: u32, c: u8, a: &mut [u8]) -> u8 {
-    match c {
+// Another event, with the length that the memory has, and its answer.
+fn other(s: &mut Words, length: u32, c: u8, a: &mut [u8]) -> Option<u8> {
+    let answer = match c {
         b'\n' | b'k' => {
             *s = stream_run::fresh(length as u64);
-            0
+            return None;
         }
         b'a' => {
             aged(s, 4294967294);
-            0
+            return None;
         }
         b'e' => {
             aged(s, 9223372036854775805);
-            0
+            return None;
         }
         b'v' => (u32::from(stream_verdict::film_verdict(s)) % 4 + 53) as u8,
         b'h' => {
             record(s, a);
             b'H'
         }
-        _ => 0,
-    }
+        _ => return None,
+    };
+    Some(answer)
 }
 
-// The letter of the answer of an event is given back, and 0 where it has none.
-pub fn event(s: &mut Words, memory: &[u8], e: Event, a: &mut [u8]) -> u8 {
+// The letter of the answer of an event, where it has one.
+pub fn event(s: &mut Words, memory: &[u8], e: Event, a: &mut [u8]) -> Option<u8> {
     let c = e.letter;
     match c {
-        b'r' | b'b' | b'q' | b'd' | b's' | b't' | b'j' | b'y' | b'i' => call(
-            s, memory, c, e.size, a,
-        ),
+        b'r' | b'b' | b'q' | b'd' | b's' | b't' | b'j' | b'y' | b'i' => {
+            Some(call(s, memory, c, e.size, a))
+        }
         _ => other(s, e.length, c, a),
     }
 }

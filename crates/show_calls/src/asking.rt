@@ -1,4 +1,6 @@
-// Calls by their letters. Request words and codes of formats are written out once more here: a client asks by number.
+// Calls by their letters, which are those of the lists: an enum of calls would be a second list of them before the matches here. Request words and
+// codes of formats are written out once more here: a client asks by number.
+use show_lists::Event;
 
 // The first words of an argument; the others are 0.
 type Words = [u32; 15];
@@ -38,10 +40,7 @@ fn length(c: u8) -> usize {
 
 // The bytes of an argument that a client lends.
 pub fn lent(a: &mut [u8], c: u8) -> &mut [u8] {
-    let n = length(c);
-    if a.len() < n {
-        return a;
-    }
+    let n = length(c).min(a.len());
     &mut a[..n]
 }
 
@@ -67,8 +66,9 @@ pub(crate) fn last(c: u8) -> u32 {
 // What a client asks with, by two numbers. An opening has the length of the picture memory, that of the sheet, the sheet's least width, which
 // is even in a good one, the length of the caption memory, and 1 for the sheet with odd tops. An arrival has its length, its time and its
 // type, and one of captions the load and the service. The 7 is the bytes per line that a client would like, which nobody looks at.
-pub(crate) fn argument(c: u8, x: u32, n: u32) -> Words {
-    match c {
+pub(crate) fn argument(e: Event) -> Words {
+    let (x, n) = (e.first, e.number);
+    match e.letter {
         b'B' => words(n, 324, 160, 0, 0, 0),
         b'D' => words(n, 324, 161, 0, 0, 0),
         b'U' => words(n, 323, 160, 0, 0, 0),

@@ -1,5 +1,6 @@
 // How an event is said, from the words of its argument.
 use crate::asking;
+use show_lists::Event;
 use std::io;
 use std::io::Write;
 
@@ -57,20 +58,21 @@ fn said(out: &mut impl Write, c: u8, a: &[u8]) -> io::Result<()> {
 }
 
 // Whether a call that can be about either stream is about captions.
-fn of_captions(c: u8, x: u32) -> bool {
-    match c {
-        b'g' | b'r' | b'b' | b'q' | b'd' | b's' | b'o' | b'v' | b'm' | b'n' => x == 6,
-        _ => false,
-    }
+fn of_captions(e: Event) -> bool {
+    e.first == 6
+        && matches!(
+            e.letter,
+            b'g' | b'r' | b'b' | b'q' | b'd' | b's' | b'o' | b'v' | b'm' | b'n'
+        )
 }
 
-// What is asked, by two numbers: it is written as the argument, and said.
-pub fn asked(out: &mut impl Write, c: u8, x: u32, n: u32, a: &mut [u8]) -> io::Result<()> {
-    let words = asking::argument(c, x, n);
+// What an event asks: it is written as the argument, and said.
+pub fn asked(out: &mut impl Write, e: Event, a: &mut [u8]) -> io::Result<()> {
+    let words = asking::argument(e);
     wire_store::put_words(a, 0, &words);
-    wire_store::put_word(a, 100, asking::last(c));
-    if of_captions(c, x) {
-        show_text::text(out, b"captions, ")?;
+    wire_store::put_word(a, 100, asking::last(e.letter));
+    if of_captions(e) {
+        write!(out, "captions, ")?;
     }
-    said(out, c, a)
+    said(out, e.letter, a)
 }

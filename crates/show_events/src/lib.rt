@@ -2,7 +2,7 @@
 #![tactic(auto)]
 
 use device_state::Device;
-use show_lists::Reading;
+use show_lists::Event;
 use std::io;
 use std::io::Write;
 
@@ -12,6 +12,9 @@ pub type Memory = [u8; 1048576];
 
 // The caption memory: two buffers.
 pub type Captions = [u8; 8192];
+
+// The two memories go along as two parameters: tried as fields of one struct, they could not both be lent to `answered`, which the borrow checker
+// of the proofs does not cover behind a reference.
 
 // What an event asks is done; the number that comes back.
 fn done(
@@ -37,11 +40,11 @@ pub fn event(
     d: &mut Device,
     pictures: &mut Memory,
     captions: &mut Captions,
-    e: Reading,
+    e: Event,
 ) -> io::Result<()> {
     let c = e.letter;
     let mut a = [0u8; 204];
-    show_calls::asked(out, c, e.first, e.number, &mut a)?;
+    show_calls::asked(out, e, &mut a)?;
     let number = done(d, pictures, captions, c, &mut a);
     show_answers::answered(out, c, number, &a, pictures, captions)
 }

@@ -6,93 +6,127 @@
 use std::io;
 use std::io::Write;
 
-// How far a table is read: whether in a title; the letter of the event that just ended, 0 where none did, and a line's end where the list
-// did; its two numbers, of 32 bits each, and whether the one that is read is below zero; and how many events d the list has had.
+// An event: its letter, which is the table's own, and its two numbers, of 32 bits each. One that is not there is 0.
 #[derive(Clone, Copy)]
-pub struct Reading {
-    pub title: bool,
+pub struct Event {
     pub letter: u8,
     pub first: u32,
     pub number: u32,
+}
+
+// What ends with a byte of a table: an event, or a list.
+#[derive(Clone, Copy)]
+pub enum Item {
+    Event(Event),
+    List,
+}
+
+// The numbers of the event that is being read. Behind a minus the second goes below zero.
+#[derive(Clone, Copy)]
+pub struct Numbers {
+    pub first: u32,
+    pub number: u32,
     pub minus: bool,
-    pub counted: u32,
 }
 
 // Nothing of an event is read yet.
-pub fn begun(title: bool, letter: u8, counted: u32) -> Reading {
-    Reading {
-        title,
-        letter,
-        first: 0,
-        number: 0,
-        minus: false,
-        counted,
+const NONE: Numbers = Numbers {
+    first: 0,
+    number: 0,
+    minus: false,
+};
+
+impl Numbers {
+    // After one more digit.
+    fn grown(self, digit: u32) -> Numbers {
+        let tenfold = self.number.wrapping_mul(10);
+        let number = if self.minus {
+            tenfold.wrapping_sub(digit)
+        } else {
+            tenfold.wrapping_add(digit)
+        };
+        Numbers { number, ..self }
     }
 }
 
-// The number so far, after one more digit of it.
-fn grown(number: u32, minus: bool, c: u8) -> u32 {
-    let tenfold = ((number as u64 * 10) % 4294967296) as u32;
-    let digit = (c as u32 + 208) % 256;
-    if minus {
-        std::num::wrapping_sub_u32(tenfold, digit)
-    } else {
-        std::num::wrapping_add_u32(tenfold, digit)
-    }
+#[derive(Clone, Copy)]
+pub enum Place {
+    Title,
+    Events(Numbers),
 }
 
-// A byte of an event: of a number, or its letter. The number of the event # is how many events d there were.
-fn event(r: Reading, c: u8) -> Reading {
-    let mut next = r;
-    match c {
-        b'-' => {
-            next.minus = true;
-        }
-        b'x' => {
-            next.first = r.number;
-            next.number = 0;
-            next.minus = false;
-        }
-        b'0'..=b'9' => {
-            next.number = grown(r.number, r.minus, c);
-        }
-        b'd' => {
-            next.letter = c;
-            next.counted = std::num::wrapping_add_u32(r.counted, 1);
-        }
-        b'#' => {
-            next.letter = c;
-            next.number = r.counted;
-        }
-        _ => {
-            next.letter = c;
-        }
-    }
-    next
+// How far a table is read: where, and how many events d the list has had.
+#[derive(Clone, Copy)]
+pub struct Reading {
+    pub place: Place,
+    pub counted: u32,
 }
 
-// The next byte of a table. The bytes of a title go to the writer.
-pub fn after(out: &mut impl Write, r: Reading, c: u8) -> io::Result<Reading> {
-    if r.title {
-        show_text::letter(out, c)?;
-        return Ok(begun(c != b'\n', 0, 0));
+impl Reading {
+    // A table begins with a title.
+    pub fn new() -> Reading {
+        Reading {
+            place: Place::Title,
+            counted: 0,
+        }
     }
-    match c {
-        b'\n' => {
-            show_text::letter(out, c)?;
-            Ok(begun(true, c, 0))
+
+    // The letter of an event. The number of the event # is how many events d there were.
+    fn ended(&mut self, read: Numbers, letter: u8) -> Event {
+        self.place = Place::Events(NONE);
+        if letter == b'd' {
+            self.counted = self.counted.wrapping_add(1);
         }
-        b'/' => {
-            show_text::letter(out, b'\n')?;
-            Ok(begun(false, 0, r.counted))
-        }
-        b' ' => Ok(begun(false, 0, r.counted)),
-        _ => {
-            if r.letter == 0 {
-                Ok(event(r, c))
+        Event {
+            letter,
+            first: read.first,
+            number: if letter == b'#' {
+                self.counted
             } else {
-                Ok(event(begun(false, 0, r.counted), c))
-            }
+                read.number
+            },
         }
+    }
+
+    // A byte of an event: of its numbers, or its letter. A zero byte is neither.
+    fn event(&mut self, read: Numbers, c: u8) -> Option<Event> {
+        let numbers = match c {
+            0 => read,
+            b'-' => Numbers {
+                minus: true,
+                ..read
+            },
+            b'x' => Numbers {
+                first: read.number,
+                ..NONE
+            },
+            b'0'..=b'9' => read.grown((c - b'0') as u32),
+            _ => return Some(self.ended(read, c)),
+        };
+        self.place = Place::Events(numbers);
+        None
+    }
+
+    // The next byte of a table, and what ends with it. The bytes of a title go to the writer.
+    pub fn after(&mut self, out: &mut impl Write, c: u8) -> io::Result<Option<Item>> {
+        match (self.place, c) {
+            (Place::Title, b'\n') => {
+                show_text::letter(out, c)?;
+                self.place = Place::Events(NONE);
+            }
+            (Place::Title, _) => show_text::letter(out, c)?,
+            (Place::Events(_), b'\n') => {
+                show_text::letter(out, c)?;
+                *self = Reading::new();
+                return Ok(Some(Item::List));
+            }
+            (Place::Events(_), b'/') => {
+                show_text::letter(out, b'\n')?;
+                self.place = Place::Events(NONE);
+            }
+            (Place::Events(_), b' ') => self.place = Place::Events(NONE),
+            (Place::Events(read), _) => return Ok(self.event(read, c).map(Item::Event)),
+        }
+        Ok(None)
     }
 }

@@ -2,7 +2,8 @@
 // those of `show_buffers`; and
 //   z another frame size, c another second on the clock, k another length of the memory, at the start of a list
 use crate::items;
-use show_arrivals::Event;
+use show_arrivals::{Arrival, Event};
+use show_lists::{Item, Reading};
 use std::io;
 use std::io::Write;
 use stream_words::Words;
@@ -11,38 +12,42 @@ use stream_words::Words;
 // long for the checker to count.
 type Memory = [u8; 139264];
 
-// The next event, after the one before it, which leaves the size of a frame, the clock and the length of the memory. A list begins with frames
-// of 64 bytes, five seconds on the clock, and the whole memory.
-fn next(before: Event, letter: u8, number: u32) -> Event {
-    let mut e = before;
-    e.letter = letter;
-    e.number = number;
-    match letter {
-        b'\n' => {
-            e.size = 64;
-            e.clock = 5;
-            e.length = 139264;
-        }
-        b'z' => {
-            e.size = number;
-        }
-        b'c' => {
-            e.clock = number;
-        }
-        b'k' => {
-            e.length = number;
-        }
-        _ => (),
+// The end of a list: the next one begins with frames of 64 bytes, five seconds on the clock, and the whole memory.
+const END: Event = Event {
+    letter: b'\n',
+    number: 0,
+    size: 64,
+    clock: 5,
+    length: 139264,
+};
+
+// The next event, after the one before it, which leaves the size of a frame, the clock and the length of the memory.
+fn next(before: Event, item: Item) -> Event {
+    let Item::Event(read) = item else {
+        return END;
+    };
+    let number = read.number;
+    let e = Event {
+        letter: read.letter,
+        number,
+        ..before
+    };
+    match read.letter {
+        b'z' => Event { size: number, ..e },
+        b'c' => Event { clock: number, ..e },
+        b'k' => Event {
+            length: number,
+            ..e
+        },
+        _ => e,
     }
-    e
 }
 
-// An event is done, and the letter of its answer is given back.
-fn done(s: &mut Words, memory: &mut Memory, e: Event, a: &mut [u8]) -> u8 {
-    if show_arrivals::arrival(e.letter) {
-        show_arrivals::arrive(s, memory, e, a)
-    } else {
-        show_buffers::event(s, memory, e, a)
+// An event is done. The letter of its answer is given back, where it has one.
+fn done(s: &mut Words, memory: &mut Memory, e: Event, a: &mut [u8]) -> Option<u8> {
+    match Arrival::of(e.letter) {
+        Some(kind) => Some(show_arrivals::arrive(s, memory, kind, e, a)),
+        None => show_buffers::event(s, memory, e, a),
     }
 }
 
@@ -53,25 +58,20 @@ fn event(out: &mut impl Write, s: &mut Words, memory: &mut Memory, e: Event) -> 
     wire_store::put_words(&mut a, 0, &[e.number, 1, 1]);
     wire_store::put_word(&mut a, 48, 1);
     items::told(out, e.letter, &a)?;
-    let answer = done(s, memory, e, &mut a);
-    items::told(out, answer, &a)
+    if let Some(answer) = done(s, memory, e, &mut a) {
+        items::told(out, answer, &a)?;
+    }
+    Ok(())
 }
 
 // The lists of a table, one after the other. A list has a stream of its own.
 pub(crate) fn table(out: &mut impl Write, memory: &mut Memory, lists: &[u8]) -> io::Result<()> {
     let mut s = stream_run::fresh(139264);
-    let mut e = Event {
-        letter: 0,
-        number: 0,
-        size: 64,
-        clock: 5,
-        length: 139264,
-    };
-    let mut r = show_lists::begun(true, 0, 0);
+    let mut e = END;
+    let mut reading = Reading::new();
     for b in lists {
-        r = show_lists::after(out, r, *b)?;
-        if r.letter != 0 {
-            e = next(e, r.letter, r.number);
+        if let Some(item) = reading.after(out, *b)? {
+            e = next(e, item);
             event(out, &mut s, memory, e)?;
         }
     }

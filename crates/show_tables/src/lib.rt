@@ -2,10 +2,12 @@
 #![tactic(auto)]
 
 use show_events::{Captions, Memory};
+use show_lists::{Item, Reading};
 use std::io;
 use std::io::Write;
 
-// The lists of a table, one after the other. A list starts with an opening; before the first, the device is one that no sheet opened.
+// The lists of a table, one after the other. A list starts with an opening; before the first, the device is one that no sheet opened. The table is
+// bytes, and no &str: any bytes are taken, as of standard input.
 pub fn table(
     out: &mut impl Write,
     pictures: &mut Memory,
@@ -13,10 +15,9 @@ pub fn table(
     lists: &[u8],
 ) -> io::Result<()> {
     let mut d = device_opening::closed_device();
-    let mut e = show_lists::begun(true, 0, 0);
+    let mut reading = Reading::new();
     for b in lists {
-        e = show_lists::after(out, e, *b)?;
-        if 32 < e.letter {
+        if let Some(Item::Event(e)) = reading.after(out, *b)? {
             show_events::event(out, &mut d, pictures, captions, e)?;
         }
     }
