@@ -12,8 +12,8 @@ fn negotiate(
     height: u32,
 ) -> io::Result<()> {
     let asked = Format {
-        width: width,
-        height: height,
+        width,
+        height,
         code: format_rules::YUYV,
     };
     let f = negotiation_rules::negotiate(s, asked);
@@ -47,10 +47,10 @@ fn told(out: &mut impl Write, text: &[u8], r: Rect) -> io::Result<()> {
 
 fn rect(left: i32, top: i32, width: i32, height: i32) -> Rect {
     Rect {
-        left: left,
-        top: top,
-        width: width,
-        height: height,
+        left,
+        top,
+        width,
+        height,
     }
 }
 
