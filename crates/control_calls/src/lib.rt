@@ -20,7 +20,7 @@ pub fn g_ctrl(sheet: &[u8], values: &Values, argument: &mut [u8]) -> Result<(), 
     Ok(())
 }
 
-// A value kept for control k. Past the last place nothing is kept.
+// A value kept for control k. Past the last place nothing is kept. The test is by hand: with `get_mut` in its place the proof didn't close.
 fn keep(values: &mut [u32], k: u32, v: u32)
     ensures { values.new ≡ set values.old k v }
 {

@@ -83,12 +83,12 @@ module _ (p : ℕ → Bool) where
           absurd (false≢true (sym (f (first_below p n) w) ∙ first_passes n w))
       by false l = omega (arith, first_within n, ltb-false (first_below p n) n l)
 
-  -- what `find` says of its result, as the answer of a look-up
+  -- what a search says of its result, as the answer of a look-up
   pub found_first : (n : ℕ) (r : Option ℕ)
-      → MatchOption r ((j : ℕ) → 0 ≤ j → j < n → p j ≡ false) (λ k. (0 ≤ k) × (k < n) × (p k ≡ true) × ((j : ℕ) → 0 ≤ j → j < k → p j ≡ false))
+      → MatchOption r ((j : ℕ) → j < n → p j ≡ false) (λ k. (k < n) × (p k ≡ true) × ((j : ℕ) → j < k → p j ≡ false))
       → r ≡ cond (ltb (first_below p n) n) (Some (first_below p n)) None
   found_first n (Some k) m =
-      let (_, h, e, f) = m in
-      let q = first_is n k h e (λ j l. f j (omega arith) l) in
+      let (h, e, f) = m in
+      let q = first_is n k h e f in
       rw (q, lt-ltb k n h)
-  found_first n None m = let q = first_none n (λ j l. m j (omega arith) l) in rw (q, le-ltb n n (omega arith))
+  found_first n None m = let q = first_none n m in rw (q, le-ltb n n (omega arith))

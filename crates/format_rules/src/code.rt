@@ -1,4 +1,6 @@
 // The nine four-character codes: bytes per pixel, colour space, and which have chroma of half the size each way.
+// A code is a number and no enum: a client may ask for any number, and an answer has the code as it stands in the sheet, so that an enum would be made of
+// a number and turned back at each use.
 ghost use Rattle.std.specs.Prelude.{◌≡◌};
 ghost use Rattle.format_rules.specs.Code.{bytes_per_pixel, colour_space, half_chroma};
 

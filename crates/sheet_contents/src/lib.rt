@@ -1,4 +1,5 @@
 // A sheet's table of contents: how many formats and controls there are, and where each body starts.
+// Each field has a function of its own, though some differ in a number alone: the name says which field it is, and no caller has to know its place.
 #![tactic(auto)]
 
 ghost use Rattle.std.specs.Prelude.{◌≡◌, ◌<◌};

@@ -19,7 +19,7 @@ fn rect_at(s: &[u8], at: usize) -> Rect
     }
 }
 
-// The rectangle that a crop stays inside.
+// The rectangle that a crop stays inside. It and the default differ in their place alone, which `rect_at` takes: the name says which it is.
 pub fn crop_bounds(s: &[u8]) -> Rect
     ensures { result ≡ crop_bounds s.now }
 {

@@ -43,7 +43,7 @@ fn range_at(s: &[u8], at: usize) -> Range
     }
 }
 
-// The allowed widths.
+// The allowed widths. They and the heights differ in their place alone, which `range_at` takes: the name says which they are.
 pub fn widths(s: &[u8]) -> Range
     ensures { result ≡ widths_of s.now }
 {

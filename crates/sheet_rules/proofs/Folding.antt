@@ -1,17 +1,14 @@
 -- Tests gathered by a loop, one more at each turn, and what a passed test of all says of each. Assumes nothing.
-use Prim.Native.Nat.{ℕ, zero, suc, ◌+◌, ◌≤◌, ◌<◌}
-use mathlib.Core.Path.{◌≡◌, refl, sym, ap, ◌∙◌}
+use Prim.Native.Nat.{ℕ, ◌+◌, ◌≤◌, ◌<◌}
+use mathlib.Core.Path.{◌≡◌, sym, ◌∙◌}
 use mathlib.Core.Bool.{Bool, true, false, ◌&&◌, ◌||◌}
-use mathlib.Core.List.{List, [], ◌∷◌}
-use lib.Dec.{eqb}
 use lib.ListN.{length, get_or}
 use Rattle.std.specs.Bool.{MatchBool}
-use Rattle.std.specs.List.{AllWithin, HoldsAt, range_with_len, list_any}
+use Rattle.std.specs.List.{AllWithin, HoldsAt, range_with_len}
 use Rattle.std.proofs.lemmas.List.FromFn.{length-range_with_len, get_or-range_with_len}
 use native.Mathlib.Omega.{arith}
 use native.Mathlib.Numerals.{add-one}
 use Rattle.sheet_rules.specs.Folds.{all_below, any_below}
-use Rattle.sheet_rules.specs.Rules.{has_zero}
 use Rattle.sheet_rules.proofs.Truth.{all_of, all_not}
 
 -- a turn leads to the bound at most
@@ -42,23 +39,3 @@ all_told n p false h =
     let m = rw (length-range_with_len 0 n) at l in
     let f = e 0 in
     sym (all_not n p k m (rw (in_range n k m) at f))
-
--- a test of the first number, and of those behind it
-any_first : (n : ℕ) (p : ℕ → Bool) → any_below (suc n) p ≡ (p 0 || any_below n (λ i. p (suc i)))
-unfolding any_below
-any_first zero p = by (p 0)
-  where
-    by : (t : Bool) → (false || t) ≡ (t || false)
-    by true = refl
-    by false = refl
-any_first (suc n) p = rw (any_first n p) (by (p 0) (any_below n (λ i. p (suc i))) (p (suc n)))
-  where
-    by : (x y z : Bool) → ((x || y) || z) ≡ (x || (y || z))
-    by true y z = refl
-    by false y z = refl
-
--- `contains` of a zero
-pub contains_zero : (t : List ℕ) → list_any (λ y. eqb y 0) t ≡ has_zero t
-unfolding has_zero any_below
-contains_zero [] = refl
-contains_zero (x ∷ t) = ap (λ (b : Bool). eqb x 0 || b) (contains_zero t) ∙ sym (any_first (length t) (λ j. eqb (get_or (x ∷ t) j 0) 0))
