@@ -1,11 +1,13 @@
 -- Which queue a buffer is in, by where it stands in the line. Assumes nothing.
 use mathlib.Core.Path.{◌≡◌, refl, sym, ◌∙◌}
-use mathlib.Core.Bool.{Bool, true, false, cond, ◌||◌, true≢false}
+use mathlib.Core.Bool.{Bool, true, false, cond, ◌||◌}
 use Prim.Native.Nat.{ℕ, ◌+◌, ◌-◌, ◌%◌, ◌≤◌, ◌<◌}
 use native.Mathlib.Omega.{arith}
 use native.Mathlib.Decide.{dec_lt}
 use borrow.Author.Tests.{eq-eqb, ne_eqb, lt-ltb, le-ltb}
 use lib.Dec.{eqb, ltb}
+use Rattle.std.proofs.Math.Bool.{or-true}
+use Rattle.std.proofs.lemmas.Bool.{or_parts}
 use mathlib.Core.List.{List, [], ◌∷◌, ◌++◌}
 use lib.ListN.{get_or}
 use Rattle.stream_words.specs.declared.Standing.TheVariants.{Dequeued, Incoming, Outgoing}
@@ -61,10 +63,6 @@ module _ (w : List ℕ) (k h n : ℕ) (hh : h ≡ get_or w 9 0 % 32) (hn : n ≡
       by j m e (yes l) = f.before (h + j) (omega arith) (omega arith) (sym (index_at w j (h + j) (omega arith)) ∙ e)
       by j m e (no l) = g.before (h + j - 32) (omega arith) (omega arith) (sym (index_at w j (h + j - 32) (omega arith)) ∙ e)
 
-or_true : (a : Bool) → (a || true) ≡ true
-or_true true = refl
-or_true false = refl
-
 module _ (w : List ℕ) (k i : ℕ) (f : FoundAt w k i) where
   -- the entries before it are of other buffers
   before_it : (j : ℕ) → j < i → of_buffer k (frame_in w j) ≡ false
@@ -102,7 +100,7 @@ module _ (w : List ℕ) (k i : ℕ) (f : FoundAt w k i) where
   line_told = go (dec_lt i (lined_in w)) (dec_lt i (holding_in w))
     where
       go : Dec (i < lined_in w) → Dec (i < holding_in w) → ltb i (lined_in w) ≡ (is_incoming (queues_in w) k || is_outgoing (queues_in w) k)
-      go (yes h) (yes l) = rw (lt-ltb i (lined_in w) h, outgoing_found l) (sym (or_true (is_incoming (queues_in w) k)))
+      go (yes h) (yes l) = rw (lt-ltb i (lined_in w) h, outgoing_found l) (sym (or-true (is_incoming (queues_in w) k)))
       go (yes h) (no l) = rw (lt-ltb i (lined_in w) h, incoming_found (omega arith) h)
       go (no h) l = rw (le-ltb i (lined_in w) (omega arith), incoming_none (omega arith), outgoing_none (omega arith))
 
@@ -130,14 +128,10 @@ any_last p (y ∷ l) x e = go (p y) (any_last p l x e)
     go true r = refl
     go false r = r
 
-or_false : (a b : Bool) → (a || b) ≡ false → (a ≡ false) × (b ≡ false)
-or_false true b h = absurd (true≢false h)
-or_false false b h = (refl, h)
-
 -- one that was in neither queue waits then, or is still in neither where the line was full
 pub standing_pushed : (q : Queues) (k : ℕ) → (is_incoming q k || is_outgoing q k) ≡ false → standing_of (pushed q k) k ≡ cond (has_room q) Incoming Dequeued
 unfolding standing_of pushed is_incoming is_outgoing
-standing_pushed q k h = go (has_room q) (or_false (any (λ x. eqb x k) q.incoming) (any (of_buffer k) q.outgoing) h)
+standing_pushed q k h = go (has_room q) (or_parts (any (λ x. eqb x k) q.incoming) (any (of_buffer k) q.outgoing) h)
   where
     r : Bool → Queues
     r b = cond b (record { granted = q.granted; incoming = q.incoming ++ (k ∷ []); outgoing = q.outgoing }) q

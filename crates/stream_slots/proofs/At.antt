@@ -1,28 +1,16 @@
 -- Offsets and lengths, and the buffers that they mean: the arithmetic finds exactly those that there are. Assumes nothing.
-use mathlib.Core.Path.{◌≡◌, refl, sym, ap}
-use mathlib.Core.Bool.{Bool, true, false, cond, not, ◌&&◌, false≢true}
+use mathlib.Core.Path.{◌≡◌, refl, sym}
+use mathlib.Core.Bool.{true, not, ◌&&◌}
 use Prim.Native.Nat.{ℕ, ◌*◌, ◌/◌, ◌%◌, ◌≤◌, ◌<◌}
 use native.Mathlib.Omega.{arith}
 use native.Mathlib.Nat.{mod-add-div', mul-div_cancel, mul-mod_left}
 use borrow.Author.Tests.{eqb-true, eqb-false, eq-eqb, ne_eqb, ltb-true, lt-ltb, le-ltb, not-true}
 use lib.Dec.{eqb, ltb}
-use Rattle.std.specs.Prelude.{Option, Some, None}
+use Rattle.std.proofs.Math.Bool.{and-false}
+use Rattle.std.proofs.lemmas.Bool.{and_parts}
+use Rattle.std.proofs.lemmas.Option.{cond_some}
+use Rattle.std.specs.Prelude.{Some, None}
 use Rattle.stream_slots.specs.Slot.{slot_size, slot_offset, is_slot, buffer_at, slot_at}
-
-and_both : (a b : Bool) → (a && b) ≡ true → (a ≡ true) × (b ≡ true)
-and_both true b h = (refl, h)
-and_both false b h = absurd (false≢true h)
-
-and_false : (a : Bool) → (a && false) ≡ false
-and_false true = refl
-and_false false = refl
-
-abbrev found : Option ℕ → Bool
-found None = false
-found (Some k) = true
-
-no_buffer : (k : ℕ) → None ≡ Some k → ⊥
-no_buffer k e = false≢true (ap found e)
 
 module _ (n size offset length : ℕ) where
   -- where they mean a buffer: the length is a slot, the offset is that of the buffer, and it is one of the n
@@ -30,9 +18,9 @@ module _ (n size offset length : ℕ) where
       → (0 < slot_size size) × (length ≡ slot_size size) × (offset ≡ slot_offset (buffer_at size offset) size) × (buffer_at size offset < n)
   unfolding is_slot
   slot_is h =
-      let (abc, d) = and_both (not (eqb (slot_size size) 0) && eqb length (slot_size size) && eqb (offset % slot_size size) 0) (ltb (offset / slot_size size) n) h in
-      let (ab, c) = and_both (not (eqb (slot_size size) 0) && eqb length (slot_size size)) (eqb (offset % slot_size size) 0) abc in
-      let (a, b) = and_both (not (eqb (slot_size size) 0)) (eqb length (slot_size size)) ab in
+      let (abc, d) = and_parts (not (eqb (slot_size size) 0) && eqb length (slot_size size) && eqb (offset % slot_size size) 0) (ltb (offset / slot_size size) n) h in
+      let (ab, c) = and_parts (not (eqb (slot_size size) 0) && eqb length (slot_size size)) (eqb (offset % slot_size size) 0) abc in
+      let (a, b) = and_parts (not (eqb (slot_size size) 0)) (eqb length (slot_size size)) ab in
       let some = eqb-false (slot_size size) 0 (not-true (eqb (slot_size size) 0) a) in (
         positive (slot_size size) some,
         eqb-true length (slot_size size) b,
@@ -47,11 +35,11 @@ module _ (n size offset length : ℕ) where
   module _ (is : length ≡ slot_size size) where
     pub not_whole : (offset % length ≡ 0 → ⊥) → slot_at n size offset length ≡ None
     unfolding slot_at is_slot
-    not_whole h = rw (sym is, ne_eqb (offset % length) 0 h, and_false (not (eqb length 0) && eqb length length))
+    not_whole h = rw (sym is, ne_eqb (offset % length) 0 h, and-false (not (eqb length 0) && eqb length length))
 
     pub too_far : n ≤ offset / length → slot_at n size offset length ≡ None
     unfolding slot_at is_slot
-    too_far h = rw (sym is, le-ltb (offset / length) n h, and_false (not (eqb length 0) && eqb length length && eqb (offset % length) 0))
+    too_far h = rw (sym is, le-ltb (offset / length) n h, and-false (not (eqb length 0) && eqb length length && eqb (offset % length) 0))
 
     pub there : (length ≡ 0 → ⊥) → offset % length ≡ 0 → offset / length < n → slot_at n size offset length ≡ Some (offset / length)
     unfolding slot_at is_slot
@@ -60,15 +48,9 @@ module _ (n size offset length : ℕ) where
 -- a buffer that is found is one of the n
 pub found_below : (n size offset length k : ℕ) → slot_at n size offset length ≡ Some k → k < n
 unfolding slot_at
-found_below n size offset length k h = by (is_slot n size offset length) refl h
-  where
-    index : Option ℕ → ℕ
-    index None = 0
-    index (Some j) = j
-
-    by : (b : Bool) → is_slot n size offset length ≡ b → cond b (Some (buffer_at size offset)) None ≡ Some k → k < n
-    by true e f = omega (arith, ap index f, (slot_is n size offset length e).3)
-    by false e f = absurd (no_buffer k f)
+found_below n size offset length k h =
+    let f = cond_some (is_slot n size offset length) (buffer_at size offset) k h in
+    omega (arith, f.1, (slot_is n size offset length f.0).3)
 
 -- an offset of a buffer means that buffer
 pub buffer_of_law : (k size : ℕ) → 0 < slot_size size → buffer_at size (slot_offset k size) ≡ k
