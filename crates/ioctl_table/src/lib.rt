@@ -4,5 +4,5 @@
 mod refusals;
 mod table;
 
-pub use refusals::{Refusal, errno, number};
+pub use refusals::{Refusal, number};
 pub use table::{Call, Request, lookup};

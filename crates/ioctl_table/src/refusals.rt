@@ -83,9 +83,3 @@ pub fn number(answer: Result<(), Refusal>) -> u32
         Err(why) => u32::from(why),
     }
 }
-
-pub fn errno(why: Refusal) -> u32
-    ensures { result ≡ errno_of why }
-{
-    u32::from(why)
-}
