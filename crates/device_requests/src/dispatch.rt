@@ -44,9 +44,7 @@ fn called(
             captions,
             argument,
         ),
-        Some(About::Controls) => request_controls::control_request(
-            call, sheet, values, argument,
-        ),
+        Some(About::Controls) => request_controls::control_request(call, sheet, values, argument),
         None => Err(Refusal::UnknownWord),
     }
 }

@@ -13,7 +13,12 @@ use ioctl_table::{Call, Refusal};
 
 // A call about the controls, with any argument. Each arm tests the length against a number of its own, for speed: the compiler then knows
 // it in all that the arm calls.
-pub fn control_request(call: Call, sheet: &[u8], values: &mut Values, argument: &mut [u8]) -> Result<(), Refusal>
+pub fn control_request(
+    call: Call,
+    sheet: &[u8],
+    values: &mut Values,
+    argument: &mut [u8],
+) -> Result<(), Refusal>
     ensures { (d : State) → answer (number_of result) (with_values d values.new) argument.new
         ≡ on_topic Controls call sheet.now (with_values d values.old) argument.old }
 {
