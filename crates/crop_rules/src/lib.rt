@@ -6,8 +6,8 @@ ghost use Rattle.crop_rules.specs.Crop.{clamp_z, size_in, clamped_place, fields_
 
 use sheet_geometry::Rect;
 
-// The number of low..high nearest to the one asked, low where there is none. Only high may need more than 32 bits. By min and max in 64 bits, with a
-// cast back, it was tried, and the proof didn't close.
+// The number of low..high nearest to the one asked, low where there is none. Only high may need more than 32 bits. By min and max in 64 bits it takes
+// a cast back, whose bound the check did not find by itself.
 fn nearest(low: i32, high: i64, asked: i32) -> i32
     ensures { result ≡ clamp_z low high asked }
 {

@@ -20,7 +20,7 @@ pub fn crop_in(w: &SetupWords) -> Rect
     }
 }
 
-// Another crop. The words are lent as a slice, `_words`, so that the proof knows how many they are.
+// Another crop.
 pub fn keep_crop(w: &mut SetupWords, r: Rect)
     ensures { setup_in w.new ≡ changed_crop (setup_in w.old) r }
 {
@@ -28,7 +28,6 @@ pub fn keep_crop(w: &mut SetupWords, r: Rect)
     let top = wire_signed::as_bits(r.top);
     let width = wire_signed::as_bits(r.width);
     let height = wire_signed::as_bits(r.height);
-    let _words: &[u32] = w;
     w[6] = left;
     w[7] = top;
     w[8] = width;

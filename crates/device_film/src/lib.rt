@@ -10,7 +10,7 @@ ghost use Rattle.stream_arrival.specs.Arrivals.{arrived_as, arrival_of, written_
 ghost use Rattle.device_state.specs.State.{state_in};
 ghost use Rattle.device_film.specs.Film.{taken, taken_of, taken_memory, device_verdict};
 
-use device_state::SetupWords;
+use device_state::{Kind, SetupWords};
 use ioctl_table::Refusal;
 use service_rules::Lines;
 use stream_arrival::Arrival;
@@ -66,13 +66,11 @@ pub fn arrive(
     if setup[device_state::READY] == 0 {
         return Arrival::Refused(Refusal::Closed);
     }
-    if kind == device_state::PICTURES {
-        return picture(setup[device_state::SIZE], video, memory, frame, time);
+    match Kind::try_from(kind) {
+        Ok(Kind::Pictures) => picture(setup[device_state::SIZE], video, memory, frame, time),
+        Ok(Kind::Captions) => lines(services, captions, memory, frame, time),
+        Err(why) => Arrival::Refused(why),
     }
-    if kind == device_state::CAPTIONS {
-        return lines(services, captions, memory, frame, time);
-    }
-    Arrival::Refused(Refusal::WrongType)
 }
 
 // What can be said of the film of the last run of a type.
@@ -82,11 +80,9 @@ pub fn verdict_of(setup: &SetupWords, video: &Words, captions: &Words, kind: u32
     if setup[device_state::READY] == 0 {
         return Verdict::Blank;
     }
-    if kind == device_state::PICTURES {
-        return stream_verdict::film_verdict(video);
+    match Kind::try_from(kind) {
+        Ok(Kind::Pictures) => stream_verdict::film_verdict(video),
+        Ok(Kind::Captions) => stream_verdict::film_verdict(captions),
+        Err(_) => Verdict::Blank,
     }
-    if kind == device_state::CAPTIONS {
-        return stream_verdict::film_verdict(captions);
-    }
-    Verdict::Blank
 }

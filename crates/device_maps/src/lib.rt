@@ -6,7 +6,7 @@ ghost use Rattle.ioctl_table.specs.Refusal.{number_of};
 ghost use Rattle.device_state.specs.State.{state_in};
 ghost use Rattle.device_maps.specs.Mapping.{mapped, mapped_of};
 
-use device_state::SetupWords;
+use device_state::{Kind, SetupWords};
 use ioctl_table::Refusal;
 use service_rules::Lines;
 use stream_maps::Change;
@@ -29,13 +29,14 @@ pub fn change(
     if setup[device_state::READY] == 0 {
         return Err(Refusal::Closed);
     }
-    if kind == device_state::PICTURES {
-        let size = setup[device_state::SIZE];
-        return stream_mmap::change(video, c, size, offset, length);
+    match Kind::try_from(kind)? {
+        Kind::Pictures => stream_mmap::change(video, c, setup[device_state::SIZE], offset, length),
+        Kind::Captions => stream_mmap::change(
+            captions,
+            c,
+            service_sizes::io_size(services),
+            offset,
+            length,
+        ),
     }
-    if kind == device_state::CAPTIONS {
-        let size = service_sizes::io_size(services);
-        return stream_mmap::change(captions, c, size, offset, length);
-    }
-    Err(Refusal::WrongType)
 }

@@ -19,11 +19,10 @@ pub fn format_in(w: &SetupWords) -> Format
     }
 }
 
-// Another format, with its line and image size. The words are lent as a slice, `_words`, so that the proof knows how many they are.
+// Another format, with its line and image size.
 pub fn keep_format(w: &mut SetupWords, f: Format, line: u32, size: u32)
     ensures { setup_in w.new ≡ changed_format (setup_in w.old) f line size }
 {
-    let _words: &[u32] = w;
     w[1] = f.width;
     w[2] = f.height;
     w[3] = f.code;

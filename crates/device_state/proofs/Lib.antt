@@ -1,2 +1,3 @@
-pub mod Typed
+pub mod ReadTypes
 pub mod Stores
+pub mod Typed

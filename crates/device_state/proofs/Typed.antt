@@ -1,27 +1,19 @@
 -- The test of the type named in an argument, as an exit of a handler takes it. Assumes nothing.
 use Prim.Native.Nat.{ℕ}
 use mathlib.Core.List.{List}
-use mathlib.Core.Bool.{Bool, true, false, cond}
-use mathlib.Core.Path.{◌≡◌, ◌∙◌, ap, sym}
-use native.Mathlib.Omega.{arith}
-use lib.Dec.{eqb}
-use Rattle.std.specs.Prelude.{Result, Ok, Err}
+use mathlib.Core.Path.{◌≡◌, ◌∙◌, sym}
+use Rattle.std.specs.Prelude.{Result, Ok}
 use borrow.Author.Tests.{eq-eqb, ne_eqb}
 use Rattle.wire_read.specs.Words.{word_at}
 use Rattle.ioctl_table.specs.Refusal.{errno_of}
 use Rattle.ioctl_table.specs.declared.refusals.Refusal.{Refusal}
 use Rattle.ioctl_table.specs.declared.refusals.Refusal.TheVariants.{WrongType}
 use Rattle.device_state.specs.declared.Kind.{Kind}
-use Rattle.device_state.specs.declared.Kind.TheVariants.{Pictures, Captions}
+use Rattle.device_state.specs.declared.Kind.TheVariants.{Pictures}
 use Rattle.device_state.specs.Kinds.{kind_of}
+use Rattle.device_state.proofs.ReadTypes.{pictures_is}
 use Rattle.device_state.specs.State.{State}
 use Rattle.device_state.specs.Answers.{Answer, answer, typed, by_type}
-
--- what tells a result of reading a type from another
-abbrev seen : Result Kind Refusal → ℕ
-seen (Ok Pictures) = 1
-seen (Ok Captions) = 6
-seen (Err why) = 0
 
 -- a call that only pictures have; the word w read at the type's place
 module _ (at : ℕ) (d : State) (a : List ℕ) (r : Answer) {w : ℕ} (e : w ≡ word_at a at) where
@@ -49,9 +41,4 @@ module _ (at : ℕ) (d : State) (a : List ℕ) (p c : Answer) {w : ℕ} (e : w �
 
 -- a call whose type n is read as that of pictures
 pub named_pictures : (at : ℕ) (d : State) (a : List ℕ) (p c : Answer) {n : ℕ} {k : Result Kind Refusal} → n ≡ word_at a at → k ≡ kind_of n → k ≡ Ok Pictures → by_type at d a p c ≡ p
-named_pictures at d a p c {n} e o h = by (eqb n 1) (eqb n 6) (ap (λ (x : ℕ). eqb x 1) e) (sym h ∙ o)
-  where
-    by : (x y : Bool) → x ≡ eqb (word_at a at) 1 → Ok Pictures ≡ cond x (Ok Pictures) (cond y (Ok Captions) (Err WrongType)) → by_type at d a p c ≡ p
-    by true y f g = rw (← f)
-    by false true f g = absurd (omega (arith, ap seen g))
-    by false false f g = absurd (omega (arith, ap seen g))
+named_pictures at d a p c {n} e o h = by_pictures at d a p c e (pictures_is n (sym o ∙ h))

@@ -1,6 +1,10 @@
 -- The tests in the order of the definition, then what the stream of the type promises. Assumes nothing.
 use Rattle.stream_run.proofs.Given.{done_number}
-use mathlib.Core.Path.{refl, ap, ◌∙◌}
+use mathlib.Core.Path.{refl, sym, ap, ◌∙◌}
+use Rattle.std.specs.Prelude.{Ok}
+use Rattle.ioctl_table.specs.Refusal.{errno_of}
+use Rattle.ioctl_table.proofs.Raised.{raised}
+use Rattle.device_state.proofs.ReadTypes.{pictures_is, captions_is, neither_is}
 use Prim.Native.Nat.{ℕ}
 use Rattle.stream_mmap.specs.Mapping.{change_of}
 use Rattle.device_state.specs.Setup.{setup_in}
@@ -15,24 +19,28 @@ returns-then-setup-eq0 c v =
     let d = state_in a.setup.now v a.services.now a.video.now a.captions.now in
     maps_closed a.c d a.kind a.offset a.length _ c.if-setup-eq0.true refl
 
-pub returns-then-kind-eq-PICTURES : goal.returns-then-kind-eq-PICTURES
+pub returns-in_err-try_from : goal.returns-in_err-try_from
 unfolding setup_in
-returns-then-kind-eq-PICTURES c v =
+returns-in_err-try_from c v =
     let a = c.args in
     let d = state_in a.setup.now v a.services.now a.video.now a.captions.now in
-    maps_picture a.c d a.kind a.offset a.length _ c.if-setup-eq0.false c.if-kind-eq-PICTURES.true c.change.ensures (done_number _)
+    let why = c.in_err-try_from.field-0.0 in
+    let is = neither_is a.kind why (sym c.try_from.ensures ∙ c.in_err-try_from.was) in
+    maps_other a.c d a.kind a.offset a.length _ c.if-setup-eq0.false is.0 is.1 (raised c.from_residual.result why c.from_residual.ensures.1 ∙ ap errno_of (sym is.2))
 
-pub returns-then-kind-eq-CAPTIONS : goal.returns-then-kind-eq-CAPTIONS
+pub returns-in-Pictures : goal.returns-in-Pictures
 unfolding setup_in
-returns-then-kind-eq-CAPTIONS c v =
+returns-in-Pictures c v =
     let a = c.args in
     let d = state_in a.setup.now v a.services.now a.video.now a.captions.now in
-    maps_captions a.c d a.kind a.offset a.length _ c.if-setup-eq0.false c.if-kind-eq-PICTURES.false c.if-kind-eq-CAPTIONS.true
-    (c.change-then-kind-eq-CAPTIONS.ensures ∙ ap (λ (n : ℕ). change_of a.c d.captions n a.offset a.length) c.io_size-size.ensures) (done_number _)
+    let is = pictures_is a.kind (sym c.try_from.ensures ∙ c.in_ok-try_from.was ∙ ap Ok c.in-Pictures.is) in
+    maps_picture a.c d a.kind a.offset a.length _ c.if-setup-eq0.false is c.change.ensures (done_number _)
 
-pub returns : goal.returns
+pub returns-in-Captions : goal.returns-in-Captions
 unfolding setup_in
-returns c v =
+returns-in-Captions c v =
     let a = c.args in
     let d = state_in a.setup.now v a.services.now a.video.now a.captions.now in
-    maps_other a.c d a.kind a.offset a.length _ c.if-setup-eq0.false c.if-kind-eq-PICTURES.false c.if-kind-eq-CAPTIONS.false refl
+    let is = captions_is a.kind (sym c.try_from.ensures ∙ c.in_ok-try_from.was ∙ ap Ok c.in-Captions.is) in
+    maps_captions a.c d a.kind a.offset a.length _ c.if-setup-eq0.false is.0 is.1
+    (c.change-in-Captions.ensures ∙ ap (λ (n : ℕ). change_of a.c d.captions n a.offset a.length) c.io_size.ensures) (done_number _)
