@@ -4,8 +4,8 @@ ghost use Rattle.negotiation_rules.specs.Negotiation.{offers_among, offered, cho
 
 use format_rules::Format;
 
-// Whether one of the sheet's formats has the code. A good sheet has at most nine, and no more are looked at. A loop and no `any`: `tools/loops`
-// knows each loop that S_FMT reaches by the name of its function.
+// Whether one of the sheet's formats has the code. A good sheet has at most nine, and no more are looked at. A loop and no `any`: the
+// gate allows each loop that S_FMT reaches by the name of its function (request A3, tools/loops), and that of `any` would be allowed everywhere.
 fn offers(s: &[u8], code: u32) -> bool
     ensures { result ≡ offers_among s.now code (offered s.now) }
 {

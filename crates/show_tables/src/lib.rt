@@ -7,7 +7,7 @@ use std::io;
 use std::io::Write;
 
 // The lists of a table, one after the other. A list starts with an opening; before the first, the device is one that no sheet opened. The table is
-// bytes, and no &str: any bytes are taken, as of standard input.
+// bytes, and no &str: any bytes are taken.
 pub fn table(
     out: &mut impl Write,
     pictures: &mut Memory,
@@ -18,7 +18,9 @@ pub fn table(
     let mut reading = Reading::new();
     for b in lists {
         if let Some(Item::Event(e)) = reading.after(out, *b)? {
-            show_events::event(out, &mut d, pictures, captions, e)?;
+            if 32 < e.letter {
+                show_events::event(out, &mut d, pictures, captions, e)?;
+            }
         }
     }
     Ok(())
