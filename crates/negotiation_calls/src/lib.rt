@@ -35,7 +35,12 @@ fn pictured(sheet: &[u8], asked: Format) -> Picture
 }
 
 // Another format, while there are no buffers; so many are granted.
-pub fn s_fmt(sheet: &[u8], setup: &mut SetupWords, granted: u64, argument: &mut [u8]) -> Result<(), Refusal>
+pub fn s_fmt(
+    sheet: &[u8],
+    setup: &mut SetupWords,
+    granted: u64,
+    argument: &mut [u8],
+) -> Result<(), Refusal>
     ensures { (d : State) → d.video.queues.granted ≡ granted → answer (number_of result) (with_setup d (setup_in setup.new)) argument.new
         ≡ s_fmt_of sheet.now (with_setup d (setup_in setup.old)) argument.old }
 {
