@@ -1,4 +1,5 @@
-// G_FMT, S_FMT and TRY_FMT, by the type that an argument names: pictures have a format, captions have services.
+// G_FMT, S_FMT and TRY_FMT, by the type that an argument names: pictures have a format, captions have services. All are inlined, for speed: the
+// compiler then knows the length of the argument, which was tested where they are called.
 ghost use Rattle.std.specs.Prelude.{◌≡◌, List, ℕ};
 ghost use Rattle.ioctl_table.specs.Refusal.{number_of};
 ghost use Rattle.ioctl_table.specs.declared.table.Call.TheVariants.{GFmt, SFmt, TryFmt};
@@ -12,6 +13,7 @@ use ioctl_table::Refusal;
 use service_rules::Lines;
 
 // The format, or the services, in force.
+#[inline(always)]
 pub(crate) fn g_fmt(
     setup: &SetupWords,
     services: &Lines,
@@ -28,6 +30,7 @@ pub(crate) fn g_fmt(
 }
 
 // Another format, or other services, while that stream has no buffers; so many are granted to pictures and to captions.
+#[inline(always)]
 pub(crate) fn s_fmt(
     sheet: &[u8],
     setup: &mut SetupWords,
@@ -46,6 +49,7 @@ pub(crate) fn s_fmt(
 }
 
 // What S_FMT would set.
+#[inline(always)]
 pub(crate) fn try_fmt(sheet: &[u8], argument: &mut [u8]) -> Result<(), Refusal>
     ensures { (d : State) → answer (number_of result) d argument.new ≡ call_answer TryFmt sheet.now d argument.old }
 {

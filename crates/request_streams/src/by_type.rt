@@ -12,7 +12,9 @@ use ioctl_table::Refusal;
 use service_rules::Lines;
 use stream_words::Words;
 
-// The call on the stream whose type the argument names at a place; pictures have this size, captions the io size of the services.
+// The call on the stream whose type the argument names at a place; pictures have this size, captions the io size of the services. It
+// is inlined with the call, for speed: the compiler then knows the length of the argument, which was tested where this is called.
+#[inline(always)]
 pub(crate) fn by_type<C: OnStream>(
     at: usize,
     size: u32,

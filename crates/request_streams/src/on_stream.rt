@@ -24,6 +24,7 @@ pub(crate) struct Reqbufs;
 impl OnStream for Reqbufs {
     ghost answers = { reqbufs_of };
 
+    #[inline(always)]
     fn call(s: &mut Words, kind: u32, size: u32, argument: &mut [u8]) -> Result<(), Refusal> {
         buffer_calls::reqbufs(s, kind, size, argument)
     }
@@ -34,6 +35,7 @@ pub(crate) struct Querybuf;
 impl OnStream for Querybuf {
     ghost answers = { querybuf_of };
 
+    #[inline(always)]
     fn call(s: &mut Words, kind: u32, size: u32, argument: &mut [u8]) -> Result<(), Refusal> {
         buffer_calls::querybuf(s, kind, size, argument)
     }
@@ -44,6 +46,7 @@ pub(crate) struct Qbuf;
 impl OnStream for Qbuf {
     ghost answers = { qbuf_of };
 
+    #[inline(always)]
     fn call(s: &mut Words, kind: u32, size: u32, argument: &mut [u8]) -> Result<(), Refusal> {
         queue_calls::qbuf(s, kind, size, argument)
     }
@@ -54,6 +57,7 @@ pub(crate) struct Dqbuf;
 impl OnStream for Dqbuf {
     ghost answers = { dqbuf_of };
 
+    #[inline(always)]
     fn call(s: &mut Words, kind: u32, size: u32, argument: &mut [u8]) -> Result<(), Refusal> {
         dequeue_calls::dqbuf(s, kind, size, argument)
     }
@@ -64,6 +68,7 @@ pub(crate) struct Streamon;
 impl OnStream for Streamon {
     ghost answers = { streamon_of };
 
+    #[inline(always)]
     fn call(s: &mut Words, _kind: u32, _size: u32, _argument: &mut [u8]) -> Result<(), Refusal> {
         run_calls::streamon(s)
     }
@@ -74,6 +79,7 @@ pub(crate) struct Streamoff;
 impl OnStream for Streamoff {
     ghost answers = { streamoff_of };
 
+    #[inline(always)]
     fn call(s: &mut Words, _kind: u32, _size: u32, _argument: &mut [u8]) -> Result<(), Refusal> {
         run_calls::streamoff(s);
         Ok(())
