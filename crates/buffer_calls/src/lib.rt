@@ -1,5 +1,6 @@
 // REQBUFS and QUERYBUF of one stream, whatever it carries: the type that its calls name, and the size of its frames, come in with each.
 // That the argument names this type is tested by the caller, who picks the stream by it.
+// Inlined where the length of the argument was tested, for speed: the compiler then knows it.
 #![tactic(auto)]
 
 ghost use Rattle.std.specs.Prelude.{◌≡◌};
@@ -11,6 +12,7 @@ use ioctl_table::Refusal;
 use stream_words::Words;
 
 // Buffers are asked for, or freed.
+#[inline(always)]
 pub fn reqbufs(s: &mut Words, kind: u32, size: u32, argument: &mut [u8]) -> Result<(), Refusal>
     ensures { stream_answer (number_of result) (stream_in s.new) argument.new ≡ reqbufs_of (stream_in s.old) kind size argument.old }
 {
@@ -24,6 +26,7 @@ pub fn reqbufs(s: &mut Words, kind: u32, size: u32, argument: &mut [u8]) -> Resu
 }
 
 // The status of a buffer.
+#[inline(always)]
 pub fn querybuf(s: &Words, kind: u32, size: u32, argument: &mut [u8]) -> Result<(), Refusal>
     ensures { stream_answer (number_of result) (stream_in s.now) argument.new ≡ querybuf_of (stream_in s.now) kind size argument.old }
 {

@@ -1,4 +1,5 @@
 // The requests that read and set the value of a control. Each takes an argument of the length that its word says, and answers any other as far as it reaches.
+// Inlined where the length of the argument was tested, for speed: the compiler then knows it.
 #![tactic(auto)]
 
 ghost use Rattle.std.specs.Prelude.{◌≡◌, set};
@@ -11,6 +12,7 @@ use control_value_rules::{Setting, Values};
 use ioctl_table::Refusal;
 
 // The value of a control.
+#[inline(always)]
 pub fn g_ctrl(sheet: &[u8], values: &Values, argument: &mut [u8]) -> Result<(), Refusal>
     ensures { (d : State) → answer (number_of result) (with_values d values.now) argument.new ≡ g_ctrl_of sheet.now (with_values d values.now) argument.old }
 {
@@ -31,6 +33,7 @@ fn keep(values: &mut [u32], k: u32, v: u32)
 }
 
 // Another value for a control. A button leaves the argument.
+#[inline(always)]
 pub fn s_ctrl(sheet: &[u8], values: &mut Values, argument: &mut [u8]) -> Result<(), Refusal>
     ensures { (d : State) → answer (number_of result) (with_values d values.new) argument.new ≡ s_ctrl_of sheet.now (with_values d values.old) argument.old }
 {

@@ -1,4 +1,5 @@
 // CROPCAP, G_CROP and S_CROP. Each takes an argument of the length that its word says, and answers any other as far as it reaches.
+// Inlined where the length of the argument was tested, for speed: the compiler then knows it.
 #![tactic(auto)]
 
 ghost use Rattle.std.specs.Prelude.{◌≡◌};
@@ -25,6 +26,7 @@ fn asked(argument: &[u8]) -> Rect
 }
 
 // Bounds, default and pixel aspect.
+#[inline(always)]
 pub fn cropcap(sheet: &[u8], argument: &mut [u8]) -> Result<(), Refusal>
     ensures { (d : State) → answer (number_of result) d argument.new ≡ cropcap_of sheet.now d argument.old }
 {
@@ -36,6 +38,7 @@ pub fn cropcap(sheet: &[u8], argument: &mut [u8]) -> Result<(), Refusal>
 }
 
 // The present crop.
+#[inline(always)]
 pub fn g_crop(setup: &SetupWords, argument: &mut [u8]) -> Result<(), Refusal>
     ensures { (d : State) → answer (number_of result) (with_setup d (setup_in setup.now)) argument.new
         ≡ g_crop_of (with_setup d (setup_in setup.now)) argument.old }
@@ -48,6 +51,7 @@ pub fn g_crop(setup: &SetupWords, argument: &mut [u8]) -> Result<(), Refusal>
 }
 
 // Another crop, brought inside the bounds, with the fields apart. The request is write-only: its argument stays.
+#[inline(always)]
 pub fn s_crop(sheet: &[u8], setup: &mut SetupWords, argument: &[u8]) -> Result<(), Refusal>
     ensures { (d : State) → answer (number_of result) (with_setup d (setup_in setup.new)) argument.now
         ≡ s_crop_of sheet.now (with_setup d (setup_in setup.old)) argument.now }

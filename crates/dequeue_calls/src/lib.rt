@@ -1,5 +1,6 @@
 // DQBUF of one stream, whatever it carries: the type that its calls name, and the size of its frames, come in with it.
 // That the argument names this type is tested by the caller, who picks the stream by it.
+// Inlined where the length of the argument was tested, for speed: the compiler then knows it.
 #![tactic(auto)]
 
 ghost use Rattle.std.specs.Prelude.{◌≡◌};
@@ -12,6 +13,7 @@ use ioctl_table::Refusal;
 use stream_words::Words;
 
 // The oldest filled buffer is handed over.
+#[inline(always)]
 pub fn dqbuf(s: &mut Words, kind: u32, size: u32, argument: &mut [u8]) -> Result<(), Refusal>
     ensures { stream_answer (number_of result) (stream_in s.new) argument.new ≡ dqbuf_of (stream_in s.old) kind size argument.old }
 {

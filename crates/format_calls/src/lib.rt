@@ -1,4 +1,5 @@
 // QUERYCAP, ENUM_FMT, and G_FMT of pictures, whose type whoever calls it has tested. Each takes an argument of the length that its word says, and answers any other as far as it reaches.
+// Inlined where the length of the argument was tested, for speed: the compiler then knows it.
 #![tactic(auto)]
 
 ghost use Rattle.std.specs.Prelude.{◌≡◌};
@@ -12,6 +13,7 @@ use device_state::SetupWords;
 use ioctl_table::Refusal;
 
 // What the device is.
+#[inline(always)]
 pub fn querycap(sheet: &[u8], argument: &mut [u8])
     ensures { (d : State) → answer 0 d argument.new ≡ querycap_of sheet.now d argument.old }
 {
@@ -19,6 +21,7 @@ pub fn querycap(sheet: &[u8], argument: &mut [u8])
 }
 
 // The format of an index.
+#[inline(always)]
 pub fn enum_fmt(sheet: &[u8], argument: &mut [u8]) -> Result<(), Refusal>
     ensures { (d : State) → answer (number_of result) d argument.new ≡ enum_fmt_of sheet.now d argument.old }
 {
@@ -34,6 +37,7 @@ pub fn enum_fmt(sheet: &[u8], argument: &mut [u8]) -> Result<(), Refusal>
 }
 
 // The present format.
+#[inline(always)]
 pub fn g_fmt(setup: &SetupWords, argument: &mut [u8])
     ensures { (d : State) → answer 0 (with_setup d (setup_in setup.now)) argument.new
         ≡ g_fmt_of (with_setup d (setup_in setup.now)) argument.old }

@@ -1,5 +1,6 @@
 // S_FMT and TRY_FMT of pictures, whose type whoever calls them has tested. Each takes an argument of the length that its word says, and
 // answers any other as far as it reaches.
+// Inlined where the length of the argument was tested, for speed: the compiler then knows it.
 #![tactic(auto)]
 
 ghost use Rattle.std.specs.Prelude.{◌≡◌};
@@ -35,6 +36,7 @@ fn pictured(sheet: &[u8], asked: Format) -> Picture
 }
 
 // Another format, while there are no buffers; so many are granted.
+#[inline(always)]
 pub fn s_fmt(
     sheet: &[u8],
     setup: &mut SetupWords,
@@ -55,6 +57,7 @@ pub fn s_fmt(
 }
 
 // The format that S_FMT would set.
+#[inline(always)]
 pub fn try_fmt(sheet: &[u8], argument: &mut [u8])
     ensures { (d : State) → answer 0 d argument.new ≡ try_fmt_of sheet.now d argument.old }
 {
