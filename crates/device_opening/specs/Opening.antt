@@ -7,6 +7,7 @@ use Rattle.sheet_copy.specs.Copy.{kept_of}
 use Rattle.sheet_rules.specs.Rules.{good_sheet}
 use Rattle.device_state.specs.declared.Device.{Device}
 use Rattle.device_state.specs.State.{State, state_in, closed_state, opening_state}
+use Rattle.device_opening.specs.declared.RefusedOpening.{RefusedOpening}
 
 -- a device as a whole: the sheet that it keeps, and its state
 pub record Whole : Type 0 where
@@ -34,6 +35,11 @@ closed_by why = record { number = errno_of why; device = record { sheet = replic
 abbrev pub made_of : Result Device Refusal → Opened
 made_of (Ok d) = record { number = 0; device = whole_of d }
 made_of (Err why) = closed_by why
+
+-- a device made, or a refusal and the device that it leaves
+abbrev pub left_by : Result Device RefusedOpening → Opened
+left_by (Ok d) = record { number = 0; device = whole_of d }
+left_by (Err r) = record { number = errno_of r.why; device = whole_of r.device }
 
 -- a good sheet, and at most 2 ^ 30 bytes of memory for pictures and as many for captions: a device with a copy of the sheet
 unfoldable pub opened_of : List ℕ → ℕ → ℕ → Opened

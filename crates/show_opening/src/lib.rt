@@ -18,18 +18,10 @@ pub fn open(d: &mut Device, a: &[u8]) -> u32 {
     let mut bytes = sheet(wire_read::word_at(a, 16));
     wire_store::put_word(&mut bytes, 188, wire_read::word_at(a, 8));
     let lent = wire_read::part(&bytes, 0, wire_read::word_at(a, 4) as usize);
-    match device_opening::open_device(
+    ioctl_table::number(device_opening::open(
+        d,
         lent,
         wire_read::word_at(a, 0) as u64,
         wire_read::word_at(a, 12) as u64,
-    ) {
-        Ok(device) => {
-            *d = device;
-            0
-        }
-        Err(why) => {
-            *d = device_opening::closed_device();
-            u32::from(why)
-        }
-    }
+    ))
 }

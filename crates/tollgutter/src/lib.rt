@@ -27,16 +27,7 @@ use stream_maps::Change;
 pub extern "C" fn tg_open(d: &mut Device, sheet: &[u8], pictures: u64, captions: u64) -> u32
     ensures { (result ≡ (opened_of sheet.now pictures captions).number) × (whole_of d.new ≡ (opened_of sheet.now pictures captions).device) }
 {
-    match device_opening::open_device(sheet, pictures, captions) {
-        Ok(device) => {
-            *d = device;
-            0
-        }
-        Err(why) => {
-            *d = device_opening::closed_device();
-            u32::from(why)
-        }
-    }
+    ioctl_table::number(device_opening::open(d, sheet, pictures, captions))
 }
 
 // A request: any word, any argument.
