@@ -12,7 +12,8 @@ pub fn count(s: &[u8]) -> u32
 }
 
 // The place of the control with this id. This search and the next differ in their test alone. One search by `find`, with the test as a closure, was
-// tried: G_CTRL and S_CTRL took 16 to 27 in a hundred more instructions with it, and a loop takes no more than before.
+// tried: G_CTRL and S_CTRL took 16 to 27 in a hundred more instructions with it, and a loop takes no more than before. Inlined, for speed.
+#[inline(always)]
 pub fn place(s: &[u8], id: u32) -> Option<u32>
     ensures { result ≡ found_place s.now (place_of s.now id) }
 {

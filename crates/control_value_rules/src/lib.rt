@@ -17,7 +17,8 @@ pub enum Setting {
 // One value for each control.
 pub type Values = [u32; 32];
 
-// What reading control c, whose value is v, answers.
+// What reading control c, whose value is v, answers. Inlined, for speed, with all that G_CTRL and S_CTRL do: what answers a Result stores it first.
+#[inline(always)]
 fn reading_at(c: Control, v: u32) -> Result<u32, Refusal>
     ensures { result ≡ reading_at c v }
 {
@@ -31,6 +32,7 @@ fn reading_at(c: Control, v: u32) -> Result<u32, Refusal>
 }
 
 // The value of the control with this id. The values are lent: a copy would be 128 bytes.
+#[inline(always)]
 pub fn read(s: &[u8], values: &Values, id: u32) -> Result<u32, Refusal>
     ensures { result ≡ reading s.now values.now id }
 {
@@ -40,6 +42,7 @@ pub fn read(s: &[u8], values: &Values, id: u32) -> Result<u32, Refusal>
 }
 
 // A value within the limits goes to the nearest of the grid, and is stored at place k.
+#[inline(always)]
 fn ranged(l: Limits, k: u32, value: u32) -> Result<Setting, Refusal>
     ensures { result ≡ ranged_at l k value }
 {
@@ -55,6 +58,7 @@ fn ranged(l: Limits, k: u32, value: u32) -> Result<Setting, Refusal>
 }
 
 // What setting control c at place k to a value does.
+#[inline(always)]
 fn setting_at(c: Control, k: u32, value: u32) -> Result<Setting, Refusal>
     ensures { result ≡ setting_at c k value }
 {
@@ -74,6 +78,7 @@ fn setting_at(c: Control, k: u32, value: u32) -> Result<Setting, Refusal>
 }
 
 // What setting the control with this id to a value does.
+#[inline(always)]
 pub fn set(s: &[u8], id: u32, value: u32) -> Result<Setting, Refusal>
     ensures { result ≡ setting_of s.now id value }
 {

@@ -15,7 +15,9 @@ pub fn put_capability(argument: &mut [u8], sheet: &[u8])
     wire_store::put_word(argument, 84, 0x0400_0041);
 }
 
-// ENUM_FMT: format k of the sheet.
+// ENUM_FMT: format k of the sheet. Inlined where the length of the argument was tested, for speed: the compiler then knows it. The code is read where
+// it stands, at the start of the record, for speed too: `format_code` would be a call.
+#[inline(always)]
 pub fn put_description(argument: &mut [u8], sheet: &[u8], k: u32)
     ensures { argument.new ≡ sets argument.old 0 (description_reply sheet.now k) }
 {
@@ -25,5 +27,5 @@ pub fn put_description(argument: &mut [u8], sheet: &[u8], k: u32)
     wire_copy::put_bytes(argument, 0, &zeros);
     wire_store::put_words(argument, 0, &words);
     wire_copy::put_part(argument, 12, sheet, at + 4, 32);
-    wire_store::put_word(argument, 44, sheet_records::format_code(sheet, k));
+    wire_store::put_word(argument, 44, wire_read::word_at(sheet, at));
 }

@@ -11,12 +11,12 @@ use Rattle.format_replies.proofs.Pieces.{three_pieces}
 use Rattle.format_replies.proofs.put_description.Goals as goal
 
 pub returns : goal.returns
-unfolding description_reply format_description bytes_of le32
+unfolding description_reply format_description format_code bytes_of le32
 returns c =
     let a = c.args in
     let s = a.sheet.now in
     let d = drop (format_at s a.k + 4) s in
-    rw (c.put_word.ensures, c.format_code.ensures, c.put_part.ensures, c.format_at-at.ensures.0, c.put_words.ensures, c.put_bytes.ensures)
+    rw (c.put_word.ensures, c.word_at.ensures, c.put_part.ensures, c.format_at-at.ensures.0, c.put_words.ensures, c.put_bytes.ensures)
     (three_pieces (replicate 64 0) a.argument.now (bytes_of (a.k ∷ 1 ∷ [])) (take 32 d) 0 12
     (simp length-replicate (omega arith))
     (simp length-replicate (omega (arith, length-take 32 d)))
